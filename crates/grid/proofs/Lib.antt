@@ -1,0 +1,3 @@
+pub mod AxisTests
+pub mod Limited
+mod Made

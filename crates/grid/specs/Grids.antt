@@ -1,0 +1,36 @@
+-- Grids and their cells. A cell is a list of coordinates, axis 1 first.
+--
+-- grid-side, grid-size — how many coordinates an axis has; N, how many cells and keys there are
+-- Limits        — which grids there are
+-- InGrid        — a list is a cell of the grid
+-- grid-refusal  — what making a grid meets
+use mathlib.Core.Path.{_≡_}
+use mathlib.Core.Bool.{cond, _||_}
+use mathlib.Core.List.{List}
+use Prim.Native.Nat.{ℕ, _*_, _^_, _<_, _≤_}
+use lib.Dec.{ltb}
+use lib.ListN.{length, getD}
+use Rattle.std.specs.declared.option.Option.{Option}
+use Rattle.std.specs.declared.option.Option.the-variants.{Some, None}
+use Rattle.grid.specs.declared.refusal.Refusal.{Refusal}
+use Rattle.grid.specs.declared.refusal.Refusal.the-variants.{Axes, Order}
+
+abbrev pub grid-side : ℕ → ℕ
+grid-side order = 2 ^ order
+
+abbrev pub grid-size : ℕ → ℕ → ℕ
+grid-size axes order = 2 ^ (axes * order)
+
+pub record Limits (axes order : ℕ) : Type 0 where
+  pub least-axes : 2 ≤ axes
+  pub most-axes : axes ≤ 8
+  pub least-order : 1 ≤ order
+  pub most-bits : axes * order ≤ 60
+
+pub record InGrid (axes order : ℕ) (v : List ℕ) : Type 0 where
+  pub long : length v ≡ axes
+  pub small : (i : ℕ) → i < axes → getD v i 0 < grid-side order
+
+abbrev pub grid-refusal : ℕ → ℕ → Option Refusal
+grid-refusal axes order =
+    cond (ltb axes 2 || ltb 8 axes) (Some (Axes axes)) (cond (ltb order 1 || ltb 60 (axes * order)) (Some (Order order)) None)

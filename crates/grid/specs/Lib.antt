@@ -1,0 +1,6 @@
+pub mod Answers
+pub mod Axes
+pub mod Boxes
+pub mod Corners
+pub mod Grids
+pub mod Refusals

@@ -1,0 +1,106 @@
+-- The key of a cell: when it is refused, and what the laws give of it.
+use mathlib.Core.Path.{_≡_, refl, sym, ap, _∙_, subst}
+use mathlib.Core.Bool.{Bool, true, false, cond}
+use mathlib.Core.List.{List}
+use mathlib.Core.Logic.{⊎-elim}
+use Prim.Native.Nat.{ℕ, _-_, _<_, _≤_}
+use native.Mathlib.Omega.{arith}
+use lib.Dec.{eqb, leb, ltb}
+use lib.ListN.{length, getD, take, length-take}
+use Rattle.std.proofs.shelf.Tests.{cases-bool, cond-true, cond-false, eqb-true, eq-eqb, lt-leb, leb-false, ltb-true, lt-ltb}
+use Rattle.std.specs.Vec.{made}
+use Rattle.std.specs.declared.option.Option.{Option}
+use Rattle.std.specs.declared.option.Option.the-variants.{Some, None}
+use Rattle.std.specs.declared.result.Result.{Result}
+use Rattle.std.specs.declared.result.Result.the-variants.{Ok, Err}
+use Rattle.grid.specs.declared.refusal.Refusal.{Refusal}
+use Rattle.grid.specs.declared.refusal.Refusal.the-variants.{Key, CellLength, Coordinate}
+use Rattle.grid.specs.Answers.{refusal, unless, answer}
+use Rattle.grid.specs.Axes.{lowest}
+use Rattle.grid.specs.Grids.{InGrid}
+use Rattle.grid.proofs.AxisTests.{lowest-tells, lowest-nowhere}
+use Rattle.numbering.specs.Calls.{cell-refusal, key-in-grid, outside, key-refusal, KeyOf, KeyAnswer, Undo}
+use Rattle.numbering.specs.Meaning.{Meaning, OneKey, side, size}
+
+-- An option that is None is not Some.
+pub some-none : {A : Type 0} {a : A} → Some a ≡ None → ⊥
+some-none e = let z : _≡_ {A = ℕ} 0 1 = cc in omega arith
+
+axis-none : (o : Option ℕ) → _≡_ {A = Option Refusal} (elim o [ Some axis ↦ Some (Coordinate axis) | None ↦ None ]) None → o ≡ None
+axis-none (Some axis) e = absurd (some-none e)
+axis-none None e = refl
+
+axis-kept : (o : Option ℕ) → o ≡ None → _≡_ {A = Option Refusal} (elim o [ Some axis ↦ Some (Coordinate axis) | None ↦ None ]) None
+axis-kept (Some axis) e = absurd (some-none e)
+axis-kept None e = refl
+
+module _ (m : Meaning) (v : List ℕ) where
+  -- a cell of the grid is not refused
+  pub inside-accepted : InGrid (m .axes) (m .order) v → key-refusal m v ≡ None
+  inside-accepted g =
+      cond-true (eqb (length v) (m .axes)) _ _ (eq-eqb (length v) (m .axes) (g .long))
+      ∙ axis-kept _ (lowest-nowhere (outside (side m) v) (m .axes) (λ i h. lt-leb (side m) (getD v i 0) (g .small i h)))
+
+  -- and nothing else is accepted
+  pub accepted-inside : key-refusal m v ≡ None → InGrid (m .axes) (m .order) v
+  accepted-inside e =
+      ⊎-elim
+      (λ t.
+      let none : lowest (m .axes) (outside (side m) v) ≡ None = axis-none _ (sym (cond-true (eqb (length v) (m .axes)) _ _ t) ∙ e) in
+      record {
+        long = eqb-true (length v) (m .axes) t;
+        small = λ i h. leb-false (side m) (getD v i 0) (lowest-tells (outside (side m) v) (m .axes) i h none);
+      })
+      (λ f. absurd (some-none (sym (cond-false (eqb (length v) (m .axes)) _ _ f) ∙ e)))
+      (cases-bool (eqb (length v) (m .axes)))
+
+-- a call for the key of a cell that is not refused
+pub key-found : (m : Meaning) (v : List ℕ) (r : Result ℕ Refusal) → key-refusal m v ≡ None → KeyAnswer m v r → (c : ℕ) × (r ≡ Ok c) × KeyOf m v c
+key-found m v (Ok c) e k = (c, refl, k .key)
+key-found m v (Err e′) e k = absurd (some-none (k .refused ∙ e))
+
+pub undoes : (m : Meaning) → OneKey m → Undo m
+undoes m law =
+    record {
+      key = λ c h r k.
+          let f = key-found m (m .cell c) r (inside-accepted m (m .cell c) (law .inside c h)) k in
+          f .1 ∙ ap Ok (law .only (f .0) c (f .2 .0) h (f .2 .1));
+      cell = λ v g r k. key-found m v r (inside-accepted m v g) k;
+    }
+
+-- a call for the cell of a key that is not refused
+pub record Filled (m : Meaning) (key : ℕ) (list after : List ℕ) : Type 0 where
+  pub below : key < size m
+  pub long : length list ≡ m .axes
+  pub is : after ≡ m .cell key
+
+pub cell-filled : (m : Meaning) (key : ℕ) (list after : List ℕ) → cell-refusal m key list ≡ None → after ≡ unless (cell-refusal m key list) (m .cell key) list → Filled m key list after
+cell-filled m key list after e a =
+    ⊎-elim
+    (λ t. ⊎-elim
+    (λ l. record { below = ltb-true key (size m) t; long = eqb-true (length list) (m .axes) l; is = a ∙ ap (λ o. unless o (m .cell key) list) e })
+    (λ l. absurd (some-none (sym (cond-true (ltb key (size m)) _ _ t ∙ cond-false (eqb (length list) (m .axes)) _ _ l) ∙ e)))
+    (cases-bool (eqb (length list) (m .axes))))
+    (λ f. absurd (some-none (sym (cond-false (ltb key (size m)) _ _ f) ∙ e)))
+    (cases-bool (ltb key (size m)))
+
+-- in a list of the right length only a key too large is refused
+pub cell-met : (m : Meaning) (key : ℕ) (list : List ℕ) → length list ≡ m .axes → cell-refusal m key list ≡ key-in-grid m key
+cell-met m key list e =
+    ap (λ o. cond (ltb key (size m)) o (Some (Key key))) (cond-true (eqb (length list) (m .axes)) None _ (eq-eqb (length list) (m .axes) e))
+
+-- the front of eight places, one for each axis
+pub front-long : (n : ℕ) (places : List ℕ) → n ≤ length places → length (take (n - 0) places) ≡ n
+front-long n places h = let e = length-take (n - 0) places in omega arith
+
+-- from a key to its cell and back
+pub round-refused : (m : Meaning) (key : ℕ) (list : List ℕ) (e : Refusal) → length list ≡ m .axes → Some e ≡ cell-refusal m key list
+    → Err e ≡ answer (key-in-grid m key) key
+round-refused m key list e long q = ap (λ o. answer o key) (q ∙ cell-met m key list long)
+
+pub round-returned : (m : Meaning) → OneKey m → (key : ℕ) (list after : List ℕ) (r : Result ℕ Refusal)
+    → None ≡ cell-refusal m key list → after ≡ unless (cell-refusal m key list) (m .cell key) list → KeyAnswer m after r → r ≡ answer (key-in-grid m key) key
+round-returned m law key list after r e a k =
+    let f = cell-filled m key list after (sym e) a in
+    undoes m law .key key (f .below) r (subst (λ v. KeyAnswer m v r) (f .is) k)
+    ∙ ap (λ o. answer o key) (sym (cond-true (ltb key (size m)) None (Some (Key key)) (lt-ltb key (size m) (f .below))))

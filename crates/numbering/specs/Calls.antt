@@ -1,0 +1,93 @@
+-- What each call of a numbering meets and answers.
+--
+-- cell-refusal                    — the cell of a key
+-- key-refusal, KeyOf, KeyAnswer   — the key of a cell
+-- step-refusal, StepAnswer        — the step from a key's cell to the next one's
+-- neighbour-refusal, NeighbourAnswer — the key of the cell beside a key's
+-- axis-refusal, axes-refusal      — the axes of a turning
+-- Undo                            — cell to key and key to cell undo each other
+use mathlib.Core.Path.{_≡_}
+use mathlib.Core.Bool.{Bool, cond, _||_}
+use mathlib.Core.List.{List}
+use Prim.Native.Nat.{ℕ, _+_, _-_, _<_}
+use lib.Dec.{ltb, leb, eqb}
+use lib.ListN.{length, getD}
+use Rattle.std.specs.declared.option.Option.{Option}
+use Rattle.std.specs.declared.option.Option.the-variants.{Some, None}
+use Rattle.std.specs.declared.result.Result.{Result}
+use Rattle.std.specs.declared.result.Result.the-variants.{Ok, Err}
+use Rattle.std.specs.Vec.{made}
+use Rattle.grid.specs.declared.refusal.Refusal.{Refusal}
+use Rattle.grid.specs.declared.refusal.Refusal.the-variants.{Key, CellLength, Coordinate, LastKey, NoAxis, NoNeighbour}
+use Rattle.grid.specs.declared.step.Direction.{Direction}
+use Rattle.grid.specs.declared.step.Direction.the-variants.{Up, Down}
+use Rattle.grid.specs.declared.step.Step.{Step}
+use Rattle.grid.specs.Answers.{refusal}
+use Rattle.grid.specs.Axes.{lowest}
+use Rattle.grid.specs.Grids.{InGrid}
+use Rattle.numbering.specs.Meaning.{Meaning, side, size}
+use Rattle.numbering.specs.Faces.{Leads}
+
+-- What any call meets that is given a key.
+abbrev pub key-in-grid : Meaning → ℕ → Option Refusal
+key-in-grid m key = cond (ltb key (size m)) None (Some (Key key))
+
+abbrev pub cell-refusal : Meaning → ℕ → List ℕ → Option Refusal
+cell-refusal m key list =
+    cond (ltb key (size m)) (cond (eqb (length list) (m .axes)) None (Some (CellLength (length list)))) (Some (Key key))
+
+-- The coordinate on the axis at place i is not below the side s.
+abbrev pub outside : ℕ → List ℕ → ℕ → Bool
+outside s v i = leb s (getD v i 0)
+
+abbrev pub key-refusal : Meaning → List ℕ → Option Refusal
+key-refusal m v =
+    cond (eqb (length v) (m .axes))
+    (elim (lowest (m .axes) (outside (side m) v)) [ Some axis ↦ Some (Coordinate axis) | None ↦ None ])
+    (Some (CellLength (length v)))
+
+abbrev pub KeyOf : Meaning → List ℕ → ℕ → Type 0
+KeyOf m v key = (key < size m) × (m .cell key ≡ v)
+
+pub record KeyAnswer (m : Meaning) (v : List ℕ) (r : Result ℕ Refusal) : Type 0 where
+  pub refused : refusal r ≡ key-refusal m v
+  pub key : made r (KeyOf m v)
+
+abbrev pub step-refusal : Meaning → ℕ → Option Refusal
+step-refusal m key = cond (ltb key (size m)) (cond (eqb (key + 1) (size m)) (Some (LastKey key)) None) (Some (Key key))
+
+pub record StepAnswer (m : Meaning) (key : ℕ) (r : Result Step Refusal) : Type 0 where
+  pub refused : refusal r ≡ step-refusal m key
+  pub step : made r (λ s. Leads (m .axes) s (m .cell key) (m .cell (key + 1)))
+
+-- There is no coordinate beyond x in that direction.
+abbrev pub edge : ℕ → Direction → ℕ → Bool
+edge s Up x = eqb (x + 1) s
+edge s Down x = eqb x 0
+
+-- An axis, counted from 1, is none of the numbering's.
+abbrev pub no-axis : Meaning → ℕ → Bool
+no-axis m axis = eqb axis 0 || ltb (m .axes) axis
+
+abbrev pub neighbour-refusal : Meaning → ℕ → Step → Option Refusal
+neighbour-refusal m key s =
+    cond (ltb key (size m))
+    (cond (no-axis m (s .axis))
+    (Some (NoAxis (s .axis)))
+    (cond (edge (side m) (s .direction) (getD (m .cell key) (s .axis - 1) 0)) (Some (NoNeighbour (s .axis))) None))
+    (Some (Key key))
+
+pub record NeighbourAnswer (m : Meaning) (key : ℕ) (s : Step) (r : Result ℕ Refusal) : Type 0 where
+  pub refused : refusal r ≡ neighbour-refusal m key s
+  pub neighbour : made r (λ other. (other < size m) × Leads (m .axes) s (m .cell key) (m .cell other))
+
+abbrev pub axis-refusal : Meaning → ℕ → Option Refusal
+axis-refusal m axis = cond (no-axis m axis) (Some (NoAxis axis)) None
+
+abbrev pub axes-refusal : Meaning → ℕ → ℕ → Option Refusal
+axes-refusal m first second = cond (no-axis m first) (Some (NoAxis first)) (axis-refusal m second)
+
+-- Whatever a call for the key of a cell answers: of a key's cell that key, of a cell its key.
+pub record Undo (m : Meaning) : Type 0 where
+  pub key : (c : ℕ) → c < size m → (r : Result ℕ Refusal) → KeyAnswer m (m .cell c) r → r ≡ Ok c
+  pub cell : (v : List ℕ) → InGrid (m .axes) (m .order) v → (r : Result ℕ Refusal) → KeyAnswer m v r → (c : ℕ) × (r ≡ Ok c) × KeyOf m v c

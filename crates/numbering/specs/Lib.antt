@@ -1,0 +1,4 @@
+pub mod Calls
+pub mod Faces
+pub mod Meaning
+pub mod Turnings

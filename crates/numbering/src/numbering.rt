@@ -1,0 +1,55 @@
+ghost use mathlib.Core.Path.{_≡_};
+ghost use Rattle.grid.specs.Answers.{refusal, unless, answer};
+ghost use Rattle.grid.specs.Grids.{Limits};
+ghost use Rattle.numbering.specs.Calls.{cell-refusal, KeyAnswer, Undo, key-in-grid};
+ghost use Rattle.numbering.specs.Meaning.{Meaning, OneKey, Nesting};
+use grid::Grid;
+use grid::Refusal;
+
+pub trait Numbering {
+    ghost meaning: { Self → Meaning };
+
+    law limits: { (x : Self) → Limits (meaning x .axes) (meaning x .order) };
+
+    // Every cell has exactly one key.
+    law onekey: { (x : Self) → OneKey (meaning x) };
+
+    // Keys lie in one block exactly when their cells do.
+    law nesting: { (x : Self) → Nesting (meaning x) };
+
+    fn grid(&self) -> Grid
+        ensures axes { λ r. ⌜ r .axes ≡ meaning (now (self .entry)) .axes ⌝ }
+        ensures order { λ r. ⌜ r .order ≡ meaning (now (self .entry)) .order ⌝ };
+
+    fn axes(&self) -> u32
+        ensures { λ r. ⌜ r ≡ meaning (now (self .entry)) .axes ⌝ }
+    {
+        self.grid().axes()
+    }
+
+    fn order(&self) -> u32
+        ensures { λ r. ⌜ r ≡ meaning (now (self .entry)) .order ⌝ }
+    {
+        self.grid().order()
+    }
+
+    // Fills the list with the cell of a key.
+    fn cell_of(&self, key: u64, cell: &mut [u32]) -> Result<(), Refusal>
+        ensures refused { λ r. ⌜ refusal r ≡ cell-refusal (meaning (now (self .entry))) key (now (cell .entry)) ⌝ }
+        ensures list { λ r. ⌜ now (cell .exit) ≡ unless (cell-refusal (meaning (now (self .entry))) key (now (cell .entry))) (meaning (now (self .entry)) .cell key) (now (cell .entry)) ⌝ };
+
+    // The key of a cell.
+    fn key_of(&self, cell: &[u32]) -> Result<u64, Refusal>
+        ensures { λ r. ⌜ KeyAnswer (meaning (now (self .entry))) (now (cell .entry)) r ⌝ };
+
+    // The key of the cell of a key, which is that key again; and the two calls undo each other, for all keys and cells.
+    fn round_trip(&self, key: u64) -> Result<u64, Refusal>
+        ensures answer { λ r. ⌜ r ≡ answer (key-in-grid (meaning (now (self .entry))) key) key ⌝ }
+        ensures undo { λ _. ⌜ Undo (meaning (now (self .entry))) ⌝ }
+    {
+        let mut places = [0; 8];
+        let cell = &mut places[0..self.axes() as usize];
+        self.cell_of(key, cell)?;
+        self.key_of(cell)
+    }
+}
