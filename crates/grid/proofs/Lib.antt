@@ -1,3 +1,4 @@
 pub mod AxisTests
+pub mod Checked
 pub mod Limited
 mod Made

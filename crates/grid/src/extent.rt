@@ -1,8 +1,10 @@
 ghost use mathlib.Core.Path.{_≡_};
 ghost use Prim.Native.Nat.{_<_, _≤_};
+ghost use lib.ListN.{length};
 ghost use Rattle.std.specs.Vec.{made};
-ghost use Rattle.grid.specs.Grids.{grid-side, grid-size, grid-refusal};
+ghost use Rattle.grid.specs.Grids.{grid-side, grid-size, grid-refusal, cell-check, outside};
 ghost use Rattle.grid.specs.Answers.{refusal};
+ghost use Rattle.grid.specs.Axes.{lowest};
 use crate::grid::Grid;
 use crate::refusal::Refusal;
 
@@ -48,4 +50,30 @@ impl Grid {
     {
         1 << (self.axes * self.order)
     }
+
+    // Whether a list is a cell of this grid.
+    pub fn check(self, cell: &[u32]) -> Result<(), Refusal>
+        ensures { λ r. ⌜ refusal r ≡ cell-check (self .axes) (self .order) (now (cell .entry)) ⌝ }
+    {
+        if cell.len() != self.axes as usize {
+            return Err(Refusal::CellLength { length: cell.len() });
+        }
+        if let Some(axis) = lowest_outside(cell, self.side()) {
+            return Err(Refusal::Coordinate { axis });
+        }
+        Ok(())
+    }
+}
+
+// The lowest axis on which a cell is outside.
+fn lowest_outside(cell: &[u32], side: u32) -> Option<u32>
+    requires { ⌜ length (now cell) ≤ 8 ⌝ }
+    ensures { λ r. ⌜ r ≡ lowest (length (now (cell .entry))) (outside side (now (cell .entry))) ⌝ }
+{
+    for i in 0..cell.len() {
+        if cell[i] >= side {
+            return Some(i as u32 + 1);
+        }
+    }
+    None
 }

@@ -16,43 +16,10 @@ use Rattle.std.specs.declared.result.Result.the-variants.{Ok, Err}
 use Rattle.grid.specs.declared.refusal.Refusal.{Refusal}
 use Rattle.grid.specs.declared.refusal.Refusal.the-variants.{Key, CellLength, Coordinate}
 use Rattle.grid.specs.Answers.{refusal, unless, answer}
-use Rattle.grid.specs.Axes.{lowest}
 use Rattle.grid.specs.Grids.{InGrid}
-use Rattle.grid.proofs.AxisTests.{lowest-tells, lowest-nowhere}
-use Rattle.numbering.specs.Calls.{cell-refusal, key-in-grid, outside, key-refusal, KeyOf, KeyAnswer, Undo}
+use Rattle.grid.proofs.Checked.{some-none, inside-accepted}
+use Rattle.numbering.specs.Calls.{cell-refusal, key-in-grid, key-refusal, KeyOf, KeyAnswer, Undo}
 use Rattle.numbering.specs.Meaning.{Meaning, OneKey, side, size}
-
--- An option that is None is not Some.
-pub some-none : {A : Type 0} {a : A} → Some a ≡ None → ⊥
-some-none e = let z : _≡_ {A = ℕ} 0 1 = cc in omega arith
-
-axis-none : (o : Option ℕ) → _≡_ {A = Option Refusal} (elim o [ Some axis ↦ Some (Coordinate axis) | None ↦ None ]) None → o ≡ None
-axis-none (Some axis) e = absurd (some-none e)
-axis-none None e = refl
-
-axis-kept : (o : Option ℕ) → o ≡ None → _≡_ {A = Option Refusal} (elim o [ Some axis ↦ Some (Coordinate axis) | None ↦ None ]) None
-axis-kept (Some axis) e = absurd (some-none e)
-axis-kept None e = refl
-
-module _ (m : Meaning) (v : List ℕ) where
-  -- a cell of the grid is not refused
-  pub inside-accepted : InGrid (m .axes) (m .order) v → key-refusal m v ≡ None
-  inside-accepted g =
-      cond-true (eqb (length v) (m .axes)) _ _ (eq-eqb (length v) (m .axes) (g .long))
-      ∙ axis-kept _ (lowest-nowhere (outside (side m) v) (m .axes) (λ i h. lt-leb (side m) (getD v i 0) (g .small i h)))
-
-  -- and nothing else is accepted
-  pub accepted-inside : key-refusal m v ≡ None → InGrid (m .axes) (m .order) v
-  accepted-inside e =
-      ⊎-elim
-      (λ t.
-      let none : lowest (m .axes) (outside (side m) v) ≡ None = axis-none _ (sym (cond-true (eqb (length v) (m .axes)) _ _ t) ∙ e) in
-      record {
-        long = eqb-true (length v) (m .axes) t;
-        small = λ i h. leb-false (side m) (getD v i 0) (lowest-tells (outside (side m) v) (m .axes) i h none);
-      })
-      (λ f. absurd (some-none (sym (cond-false (eqb (length v) (m .axes)) _ _ f) ∙ e)))
-      (cases-bool (eqb (length v) (m .axes)))
 
 -- a call for the key of a cell that is not refused
 pub key-found : (m : Meaning) (v : List ℕ) (r : Result ℕ Refusal) → key-refusal m v ≡ None → KeyAnswer m v r → (c : ℕ) × (r ≡ Ok c) × KeyOf m v c
@@ -63,9 +30,9 @@ pub undoes : (m : Meaning) → OneKey m → Undo m
 undoes m law =
     record {
       key = λ c h r k.
-          let f = key-found m (m .cell c) r (inside-accepted m (m .cell c) (law .inside c h)) k in
+          let f = key-found m (m .cell c) r (inside-accepted (m .axes) (m .order) (m .cell c) (law .inside c h)) k in
           f .1 ∙ ap Ok (law .only (f .0) c (f .2 .0) h (f .2 .1));
-      cell = λ v g r k. key-found m v r (inside-accepted m v g) k;
+      cell = λ v g r k. key-found m v r (inside-accepted (m .axes) (m .order) v g) k;
     }
 
 -- a call for the cell of a key that is not refused

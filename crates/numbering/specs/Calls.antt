@@ -10,7 +10,7 @@ use mathlib.Core.Path.{_≡_}
 use mathlib.Core.Bool.{Bool, cond, _||_}
 use mathlib.Core.List.{List}
 use Prim.Native.Nat.{ℕ, _+_, _-_, _<_}
-use lib.Dec.{ltb, leb, eqb}
+use lib.Dec.{ltb, eqb}
 use lib.ListN.{length, getD}
 use Rattle.std.specs.declared.option.Option.{Option}
 use Rattle.std.specs.declared.option.Option.the-variants.{Some, None}
@@ -18,13 +18,12 @@ use Rattle.std.specs.declared.result.Result.{Result}
 use Rattle.std.specs.declared.result.Result.the-variants.{Ok, Err}
 use Rattle.std.specs.Vec.{made}
 use Rattle.grid.specs.declared.refusal.Refusal.{Refusal}
-use Rattle.grid.specs.declared.refusal.Refusal.the-variants.{Key, CellLength, Coordinate, LastKey, NoAxis, NoNeighbour}
+use Rattle.grid.specs.declared.refusal.Refusal.the-variants.{Key, CellLength, LastKey, NoAxis, NoNeighbour}
 use Rattle.grid.specs.declared.step.Direction.{Direction}
 use Rattle.grid.specs.declared.step.Direction.the-variants.{Up, Down}
 use Rattle.grid.specs.declared.step.Step.{Step}
 use Rattle.grid.specs.Answers.{refusal}
-use Rattle.grid.specs.Axes.{lowest}
-use Rattle.grid.specs.Grids.{InGrid}
+use Rattle.grid.specs.Grids.{InGrid, cell-check}
 use Rattle.numbering.specs.Meaning.{Meaning, side, size}
 use Rattle.numbering.specs.Faces.{Leads}
 
@@ -36,15 +35,8 @@ abbrev pub cell-refusal : Meaning → ℕ → List ℕ → Option Refusal
 cell-refusal m key list =
     cond (ltb key (size m)) (cond (eqb (length list) (m .axes)) None (Some (CellLength (length list)))) (Some (Key key))
 
--- The coordinate on the axis at place i is not below the side s.
-abbrev pub outside : ℕ → List ℕ → ℕ → Bool
-outside s v i = leb s (getD v i 0)
-
 abbrev pub key-refusal : Meaning → List ℕ → Option Refusal
-key-refusal m v =
-    cond (eqb (length v) (m .axes))
-    (elim (lowest (m .axes) (outside (side m) v)) [ Some axis ↦ Some (Coordinate axis) | None ↦ None ])
-    (Some (CellLength (length v)))
+key-refusal m v = cell-check (m .axes) (m .order) v
 
 abbrev pub KeyOf : Meaning → List ℕ → ℕ → Type 0
 KeyOf m v key = (key < size m) × (m .cell key ≡ v)
