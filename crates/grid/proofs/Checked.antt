@@ -42,3 +42,8 @@ module _ (axes order : ℕ) (v : List ℕ) where
       })
       (λ f. absurd (some-none (sym (cond-false (eqb (length v) axes) _ _ f) ∙ e)))
       (cases-bool (eqb (length v) axes))
+
+-- a check by a grid with these axes and this order
+pub checked-inside : (axes order n k : ℕ) (v : List ℕ) → axes ≡ n → order ≡ k → None ≡ cell-check axes order v → InGrid n k v
+checked-inside axes order n k v ea eo e =
+    accepted-inside n k v (sym (e ∙ ap (λ a. cell-check a order v) ea ∙ ap (λ o. cell-check n o v) eo))

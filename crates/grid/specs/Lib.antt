@@ -4,3 +4,4 @@ pub mod Boxes
 pub mod Corners
 pub mod Grids
 pub mod Refusals
+pub mod Steps

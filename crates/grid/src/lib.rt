@@ -10,6 +10,8 @@ mod grid;
 mod extent;
 // From a cell to one beside it.
 mod step;
+// The opposite of a direction.
+mod turn;
 // A box: two corners, in order.
 mod grid_box;
 // Making a box, and whether it holds a cell.

@@ -1,1 +1,4 @@
 pub mod Keys
+pub mod Mirrors
+pub mod Reversals
+pub mod Turned

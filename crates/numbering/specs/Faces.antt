@@ -2,7 +2,7 @@
 --
 -- Leads      — a step leads from one cell to another: one coordinate changes, by one
 -- ShareFace  — some step leads from one cell to the other
--- Unbroken   — the cells of consecutive keys share a face
+-- FaceToFace — the cells of consecutive keys share a face
 use mathlib.Core.Path.{_≡_}
 use mathlib.Core.List.{List}
 use mathlib.Core.Logic.{_≢_}
@@ -27,5 +27,5 @@ pub record Leads (axes : ℕ) (s : Step) (u v : List ℕ) : Type 0 where
 abbrev pub ShareFace : ℕ → List ℕ → List ℕ → Type 0
 ShareFace axes u v = (s : Step) × Leads axes s u v
 
-abbrev pub Unbroken : Meaning → Type 0
-Unbroken m = (c : ℕ) → c + 1 < size m → ShareFace (m .axes) (m .cell c) (m .cell (c + 1))
+abbrev pub FaceToFace : Meaning → Type 0
+FaceToFace m = (c : ℕ) → c + 1 < size m → ShareFace (m .axes) (m .cell c) (m .cell (c + 1))

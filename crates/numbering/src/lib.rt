@@ -2,5 +2,20 @@
 
 // The trait of every numbering.
 mod numbering;
+// The trait of those whose consecutive cells share a face.
+mod unbroken;
+// The turning that runs through the keys backwards.
+mod reversal;
+// The turning that mirrors one axis.
+mod mirror;
+// Its calls.
+mod mirroring;
 
+pub use mirror::Mirror;
+pub use mirroring::MirrorNumbering;
+pub use mirroring::MirrorUnbroken;
 pub use numbering::Numbering;
+pub use reversal::Reversal;
+pub use reversal::ReversalNumbering;
+pub use reversal::ReversalUnbroken;
+pub use unbroken::Unbroken;
