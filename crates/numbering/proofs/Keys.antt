@@ -3,11 +3,12 @@ use mathlib.Core.Path.{_≡_, refl, sym, ap, _∙_, subst}
 use mathlib.Core.Bool.{Bool, true, false, cond}
 use mathlib.Core.List.{List}
 use mathlib.Core.Logic.{⊎-elim}
-use Prim.Native.Nat.{ℕ, _-_, _<_, _≤_}
+use Prim.Native.Nat.{ℕ, _+_, _-_, _<_, _≤_}
 use native.Mathlib.Omega.{arith}
 use lib.Dec.{eqb, leb, ltb}
 use lib.ListN.{length, getD, take, length-take}
 use Rattle.std.proofs.shelf.Tests.{cases-bool, cond-true, cond-false, eqb-true, eq-eqb, lt-leb, leb-false, ltb-true, lt-ltb}
+use Rattle.std.proofs.shelf.Ways.{tells}
 use Rattle.std.specs.Vec.{made}
 use Rattle.std.specs.declared.option.Option.{Option}
 use Rattle.std.specs.declared.option.Option.the-variants.{Some, None}
@@ -18,7 +19,7 @@ use Rattle.grid.specs.declared.refusal.Refusal.the-variants.{Key, CellLength, C
 use Rattle.grid.specs.Answers.{refusal, unless, answer}
 use Rattle.grid.specs.Grids.{InGrid}
 use Rattle.grid.proofs.Checked.{some-none, inside-accepted}
-use Rattle.numbering.specs.Calls.{cell-refusal, key-in-grid, key-refusal, KeyOf, KeyAnswer, Undo}
+use Rattle.numbering.specs.Calls.{cell-refusal, key-in-grid, key-refusal, step-refusal, KeyOf, KeyAnswer, Undo}
 use Rattle.numbering.specs.Meaning.{Meaning, OneKey, side, size}
 
 -- a call for the key of a cell that is not refused
@@ -71,3 +72,7 @@ round-returned m law key list after r e a k =
     let f = cell-filled m key list after (sym e) a in
     undoes m law .key key (f .below) r (subst (λ v. KeyAnswer m v r) (f .is) k)
     ∙ ap (λ o. answer o key) (sym (cond-true (ltb key (size m)) None (Some (Key key)) (lt-ltb key (size m) (f .below))))
+
+-- a step that is not refused
+pub step-below : (m : Meaning) (key : ℕ) → None ≡ step-refusal m key → key + 1 < size m
+step-below m key e = grind (arith, tells)

@@ -1,3 +1,4 @@
+pub mod Exchanges
 pub mod Keys
 pub mod Mirrors
 pub mod Reversals

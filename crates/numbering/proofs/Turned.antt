@@ -6,14 +6,16 @@ use native.Mathlib.Omega.{arith}
 use lib.ListN.{getD}
 use Rattle.std.proofs.shelf.Results.{made-weaker}
 use Rattle.std.specs.declared.result.Result.{Result}
+use Rattle.std.specs.declared.result.Result.the-variants.{Ok}
 use Rattle.grid.specs.declared.refusal.Refusal.{Refusal}
 use Rattle.grid.specs.declared.step.Step.{Step}
 use Rattle.grid.specs.Grids.{grid-side, InGrid}
 use Rattle.grid.proofs.Checked.{inside-accepted}
-use Rattle.numbering.specs.Calls.{KeyOf, KeyAnswer}
+use Rattle.numbering.specs.Calls.{KeyOf, KeyAnswer, StepAnswer}
 use Rattle.numbering.specs.Faces.{Leads, FaceToFace}
 use Rattle.numbering.specs.Meaning.{Meaning, OneKey, Nesting, CellsTogether, size}
 use Rattle.numbering.specs.Turnings.{turned}
+use Rattle.numbering.proofs.Keys.{step-below}
 
 -- f keeps the grid of m, twice f is nothing, and cells in one block go to cells in one block
 pub record Turns (m : Meaning) (f : List ℕ → List ℕ) : Type 0 where
@@ -52,10 +54,14 @@ module _ (m : Meaning) (law : OneKey m) (f : List ℕ → List ℕ) (t : Turns m
         key = made-weaker r (KeyOf m (f v)) (KeyOf (turned f m) v) (λ c q. (q .0, ap f (q .1) ∙ t .twice v g)) (fits .key);
       }
 
-  -- f carries a step to another one
-  pub turned-joined : (carry : Step → Step)
-      → ((s : Step) (u v : List ℕ) → InGrid (m .axes) (m .order) u → InGrid (m .axes) (m .order) v → Leads (m .axes) s u v → Leads (m .axes) (carry s) (f u) (f v))
-      → FaceToFace m → FaceToFace (turned f m)
-  turned-joined carry carries joined c h =
-      let s = joined c h in
-      (carry (s .0), carries (s .0) (m .cell c) (m .cell (c + 1)) (law .inside c (omega arith)) (law .inside (c + 1) h) (s .1))
+  -- f carries each step to another one
+  module _ (carry : Step → Step)
+      (carries : (s : Step) (u v : List ℕ) → InGrid (m .axes) (m .order) u → InGrid (m .axes) (m .order) v → Leads (m .axes) s u v → Leads (m .axes) (carry s) (f u) (f v)) where
+    carried : (c : ℕ) (s : Step) → c + 1 < size m → Leads (m .axes) s (m .cell c) (m .cell (c + 1)) → Leads (m .axes) (carry s) (f (m .cell c)) (f (m .cell (c + 1)))
+    carried c s h l = carries s (m .cell c) (m .cell (c + 1)) (law .inside c (omega arith)) (law .inside (c + 1) h) l
+
+    pub turned-joined : FaceToFace m → FaceToFace (turned f m)
+    turned-joined joined c h = let s = joined c h in (carry (s .0), carried c (s .0) h (s .1))
+
+    pub turned-step : (key : ℕ) (s : Step) → StepAnswer m key (Ok s) → StepAnswer (turned f m) key (Ok (carry s))
+    turned-step key s a = record { refused = a .refused; step = carried key s (step-below m key (a .refused)) (a .step) }

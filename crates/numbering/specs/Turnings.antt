@@ -7,7 +7,7 @@
 use mathlib.Core.Bool.{cond, _&&_}
 use mathlib.Core.List.{List}
 use Prim.Native.Nat.{ℕ, _-_}
-use lib.Dec.{ltb}
+use lib.Dec.{ltb, eqb}
 use lib.ListN.{length, getD, set}
 use Rattle.numbering.specs.Meaning.{Meaning, side, size}
 
@@ -24,7 +24,10 @@ mirror-cell s i v = set v i (s - 1 - getD v i 0)
 abbrev pub mirrored : ℕ → Meaning → Meaning
 mirrored axis m = turned (mirror-cell (side m) (axis - 1)) m
 
--- At a place past the last nothing changes.
+-- The place whose coordinate comes to the place a, of n; at a place past the last nothing changes.
+abbrev pub partner : ℕ → ℕ → ℕ → ℕ → ℕ
+partner n i j a = cond (ltb i n && ltb j n) (cond (eqb a i) j (cond (eqb a j) i a)) a
+
 abbrev pub exchange-cell : ℕ → ℕ → List ℕ → List ℕ
 exchange-cell i j v = cond (ltb i (length v) && ltb j (length v)) (set (set v i (getD v j 0)) j (getD v i 0)) v
 

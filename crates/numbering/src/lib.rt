@@ -10,7 +10,14 @@ mod reversal;
 mod mirror;
 // Its calls.
 mod mirroring;
+// The turning that exchanges two axes.
+mod exchange;
+// Its calls.
+mod exchanging;
 
+pub use exchange::Exchange;
+pub use exchanging::ExchangeNumbering;
+pub use exchanging::ExchangeUnbroken;
 pub use mirror::Mirror;
 pub use mirroring::MirrorNumbering;
 pub use mirroring::MirrorUnbroken;
