@@ -1,3 +1,4 @@
+pub mod Beside
 pub mod Exchanges
 pub mod Keys
 pub mod Mirrors

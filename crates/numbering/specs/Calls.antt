@@ -52,10 +52,10 @@ pub record StepAnswer (m : Meaning) (key : ℕ) (r : Result Step Refusal) : Type
   pub refused : refusal r ≡ step-refusal m key
   pub step : made r (λ s. Leads (m .axes) s (m .cell key) (m .cell (key + 1)))
 
--- There is no coordinate beyond x in that direction.
-abbrev pub edge : ℕ → Direction → ℕ → Bool
-edge s Up x = eqb (x + 1) s
-edge s Down x = eqb x 0
+-- The coordinate beside x in that direction, if there is one below the side s.
+abbrev pub beside : ℕ → Direction → ℕ → Option ℕ
+beside s Up x = cond (ltb (x + 1) s) (Some (x + 1)) None
+beside s Down x = cond (eqb x 0) None (Some (x - 1))
 
 -- An axis, counted from 1, is none of the numbering's.
 abbrev pub no-axis : Meaning → ℕ → Bool
@@ -66,7 +66,7 @@ neighbour-refusal m key s =
     cond (ltb key (size m))
     (cond (no-axis m (s .axis))
     (Some (NoAxis (s .axis)))
-    (cond (edge (side m) (s .direction) (getD (m .cell key) (s .axis - 1) 0)) (Some (NoNeighbour (s .axis))) None))
+    (elim (beside (side m) (s .direction) (getD (m .cell key) (s .axis - 1) 0)) [ Some x ↦ None | None ↦ Some (NoNeighbour (s .axis)) ]))
     (Some (Key key))
 
 pub record NeighbourAnswer (m : Meaning) (key : ℕ) (s : Step) (r : Result ℕ Refusal) : Type 0 where

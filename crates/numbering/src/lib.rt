@@ -14,6 +14,8 @@ mod mirroring;
 mod exchange;
 // Its calls.
 mod exchanging;
+// The key of the cell beside a key's.
+mod neighbours;
 
 pub use exchange::Exchange;
 pub use exchanging::ExchangeNumbering;
@@ -21,6 +23,7 @@ pub use exchanging::ExchangeUnbroken;
 pub use mirror::Mirror;
 pub use mirroring::MirrorNumbering;
 pub use mirroring::MirrorUnbroken;
+pub use neighbours::neighbour;
 pub use numbering::Numbering;
 pub use reversal::Reversal;
 pub use reversal::ReversalNumbering;
