@@ -16,6 +16,8 @@ mod exchange;
 mod exchanging;
 // The key of the cell beside a key's.
 mod neighbours;
+// What every pile of turnings keeps, and what it means.
+mod piles;
 
 pub use exchange::Exchange;
 pub use exchanging::ExchangeNumbering;
@@ -25,6 +27,9 @@ pub use mirroring::MirrorNumbering;
 pub use mirroring::MirrorUnbroken;
 pub use neighbours::neighbour;
 pub use numbering::Numbering;
+pub use piles::cell_under;
+pub use piles::every_pile;
+pub use piles::every_unbroken_pile;
 pub use reversal::Reversal;
 pub use reversal::ReversalNumbering;
 pub use reversal::ReversalUnbroken;
