@@ -98,7 +98,8 @@ impl Refusal {
             Refusal::LastKey { .. } => "the last key has no next one",
             Refusal::NoAxis { .. } => "there is no such axis",
             Refusal::NoNeighbour { .. } => "there is no cell on that side",
-            Refusal::CornerLengths { .. } => "the corners differ in length or have not 2 to 8 coordinates",
+            Refusal::CornerLengths { .. } =>
+                "the corners differ in length or have not 2 to 8 coordinates",
             Refusal::LowAboveHigh { .. } => "a low coordinate is above the high one",
             Refusal::BoxAxes { .. } => "the box has other axes than the numbering",
             Refusal::BelowMark { .. } => "the key is below the mark",
@@ -119,7 +120,10 @@ pub impl fmt::Display for Refusal as RefusalDisplay {
         let reason = self.reason();
         match (self.number(), self.told()) {
             (Some(number), Told::One(x)) => write!(f, "refused with {number}: {reason} ({x})"),
-            (Some(number), Told::Two(x, y)) => write!(f, "refused with {number}: {reason} ({x}, {y})"),
+            (Some(number), Told::Two(x, y)) => write!(
+                f,
+                "refused with {number}: {reason} ({x}, {y})"
+            ),
             (Some(number), Told::Nothing) => write!(f, "refused with {number}: {reason}"),
             (None, _) => write!(f, "refused: {reason}"),
         }

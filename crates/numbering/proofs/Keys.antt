@@ -19,7 +19,7 @@ use Rattle.grid.specs.declared.refusal.Refusal.the-variants.{Key, CellLength, C
 use Rattle.grid.specs.Answers.{refusal, unless, answer}
 use Rattle.grid.specs.Grids.{InGrid}
 use Rattle.grid.proofs.Checked.{some-none, inside-accepted}
-use Rattle.numbering.specs.Calls.{cell-refusal, key-in-grid, key-refusal, step-refusal, KeyOf, KeyAnswer, Undo}
+use Rattle.numbering.specs.Calls.{cell-refusal, CellAnswer, key-in-grid, key-refusal, step-refusal, KeyOf, KeyAnswer, Undo}
 use Rattle.numbering.specs.Meaning.{Meaning, OneKey, side, size}
 
 -- a call for the key of a cell that is not refused
@@ -42,15 +42,8 @@ pub record Filled (m : Meaning) (key : ℕ) (list after : List ℕ) : Type 0 whe
   pub long : length list ≡ m .axes
   pub is : after ≡ m .cell key
 
-pub cell-filled : (m : Meaning) (key : ℕ) (list after : List ℕ) → cell-refusal m key list ≡ None → after ≡ unless (cell-refusal m key list) (m .cell key) list → Filled m key list after
-cell-filled m key list after e a =
-    ⊎-elim
-    (λ t. ⊎-elim
-    (λ l. record { below = ltb-true key (size m) t; long = eqb-true (length list) (m .axes) l; is = a ∙ ap (λ o. unless o (m .cell key) list) e })
-    (λ l. absurd (some-none (sym (cond-true (ltb key (size m)) _ _ t ∙ cond-false (eqb (length list) (m .axes)) _ _ l) ∙ e)))
-    (cases-bool (eqb (length list) (m .axes))))
-    (λ f. absurd (some-none (sym (cond-false (ltb key (size m)) _ _ f) ∙ e)))
-    (cases-bool (ltb key (size m)))
+pub cell-filled : (m : Meaning) (key : ℕ) (list after : List ℕ) (u : Unit {0}) → CellAnswer m key list (Ok u) after → Filled m key list after
+cell-filled m key list after u a = record { below = grind (arith, tells); long = grind (arith, tells); is = a .filled }
 
 -- in a list of the right length only a key too large is refused
 pub cell-met : (m : Meaning) (key : ℕ) (list : List ℕ) → length list ≡ m .axes → cell-refusal m key list ≡ key-in-grid m key
@@ -66,10 +59,10 @@ pub round-refused : (m : Meaning) (key : ℕ) (list : List ℕ) (e : Refusal) �
     → Err e ≡ answer (key-in-grid m key) key
 round-refused m key list e long q = ap (λ o. answer o key) (q ∙ cell-met m key list long)
 
-pub round-returned : (m : Meaning) → OneKey m → (key : ℕ) (list after : List ℕ) (r : Result ℕ Refusal)
-    → None ≡ cell-refusal m key list → after ≡ unless (cell-refusal m key list) (m .cell key) list → KeyAnswer m after r → r ≡ answer (key-in-grid m key) key
-round-returned m law key list after r e a k =
-    let f = cell-filled m key list after (sym e) a in
+pub round-returned : (m : Meaning) → OneKey m → (key : ℕ) (list after : List ℕ) (r : Result ℕ Refusal) (u : Unit {0})
+    → CellAnswer m key list (Ok u) after → KeyAnswer m after r → r ≡ answer (key-in-grid m key) key
+round-returned m law key list after r u a k =
+    let f = cell-filled m key list after u a in
     undoes m law .key key (f .below) r (subst (λ v. KeyAnswer m v r) (f .is) k)
     ∙ ap (λ o. answer o key) (sym (cond-true (ltb key (size m)) None (Some (Key key)) (lt-ltb key (size m) (f .below))))
 

@@ -1,6 +1,6 @@
 -- What each call of a numbering meets and answers.
 --
--- cell-refusal                    — the cell of a key
+-- cell-refusal, CellAnswer        — the cell of a key, in a list
 -- key-refusal, KeyOf, KeyAnswer   — the key of a cell
 -- step-refusal, StepAnswer        — the step from a key's cell to the next one's
 -- neighbour-refusal, NeighbourAnswer — the key of the cell beside a key's
@@ -22,7 +22,7 @@ use Rattle.grid.specs.declared.refusal.Refusal.the-variants.{Key, CellLength, L
 use Rattle.grid.specs.declared.step.Direction.{Direction}
 use Rattle.grid.specs.declared.step.Direction.the-variants.{Up, Down}
 use Rattle.grid.specs.declared.step.Step.{Step}
-use Rattle.grid.specs.Answers.{refusal}
+use Rattle.grid.specs.Answers.{refusal, unless}
 use Rattle.grid.specs.Grids.{InGrid, cell-check}
 use Rattle.numbering.specs.Meaning.{Meaning, side, size}
 use Rattle.numbering.specs.Faces.{Leads}
@@ -34,6 +34,11 @@ key-in-grid m key = cond (ltb key (size m)) None (Some (Key key))
 abbrev pub cell-refusal : Meaning → ℕ → List ℕ → Option Refusal
 cell-refusal m key list =
     cond (ltb key (size m)) (cond (eqb (length list) (m .axes)) None (Some (CellLength (length list)))) (Some (Key key))
+
+-- The list holds `list` at first, and `after` afterwards.
+pub record CellAnswer (m : Meaning) (key : ℕ) (list : List ℕ) (r : Result (Unit {0}) Refusal) (after : List ℕ) : Type 0 where
+  pub refused : refusal r ≡ cell-refusal m key list
+  pub filled : after ≡ unless (refusal r) (m .cell key) list
 
 abbrev pub key-refusal : Meaning → List ℕ → Option Refusal
 key-refusal m v = cell-check (m .axes) (m .order) v

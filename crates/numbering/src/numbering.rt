@@ -1,7 +1,7 @@
 ghost use mathlib.Core.Path.{_≡_};
-ghost use Rattle.grid.specs.Answers.{refusal, unless, answer};
+ghost use Rattle.grid.specs.Answers.{answer};
 ghost use Rattle.grid.specs.Grids.{Limits};
-ghost use Rattle.numbering.specs.Calls.{cell-refusal, KeyAnswer, Undo, key-in-grid};
+ghost use Rattle.numbering.specs.Calls.{CellAnswer, KeyAnswer, Undo, key-in-grid};
 ghost use Rattle.numbering.specs.Meaning.{Meaning, OneKey, Nesting};
 use grid::Grid;
 use grid::Refusal;
@@ -35,8 +35,7 @@ pub trait Numbering {
 
     // Fills the list with the cell of a key.
     fn cell_of(&self, key: u64, cell: &mut [u32]) -> Result<(), Refusal>
-        ensures refused { λ r. ⌜ refusal r ≡ cell-refusal (meaning (now (self .entry))) key (now (cell .entry)) ⌝ }
-        ensures list { λ r. ⌜ now (cell .exit) ≡ unless (cell-refusal (meaning (now (self .entry))) key (now (cell .entry))) (meaning (now (self .entry)) .cell key) (now (cell .entry)) ⌝ };
+        ensures { λ r. ⌜ CellAnswer (meaning (now (self .entry))) key (now (cell .entry)) r (now (cell .exit)) ⌝ };
 
     // The key of a cell.
     fn key_of(&self, cell: &[u32]) -> Result<u64, Refusal>

@@ -1,5 +1,8 @@
+ghost use mathlib.Core.Path.{_≡_};
+ghost use Prim.Native.Nat.{_-_};
 ghost use Rattle.numbering.specs.Calls.{StepAnswer};
 ghost use Rattle.numbering.specs.Faces.{FaceToFace};
+ghost use Rattle.numbering.specs.Meaning.{size};
 use crate::numbering::Numbering;
 use grid::Refusal;
 use grid::Step;
@@ -12,9 +15,11 @@ pub trait Unbroken: Numbering {
     fn step(&self, key: u64) -> Result<Step, Refusal>
         ensures { λ r. ⌜ StepAnswer (Self·Numbering .meaning (now (self .entry))) key r ⌝ };
 
-    // Does nothing, and promises for all keys at once that the cells of c and c + 1 share a face.
-    fn unbroken(&self)
-        ensures { λ _. ⌜ FaceToFace (Self·Numbering .meaning (now (self .entry))) ⌝ }
+    // How many steps there are from the first cell to the last: the cells of c and c + 1 share a face, for all keys at once.
+    fn steps(&self) -> u64
+        ensures count { λ r. ⌜ r ≡ size (Self·Numbering .meaning (now (self .entry))) - 1 ⌝ }
+        ensures joined { λ _. ⌜ FaceToFace (Self·Numbering .meaning (now (self .entry))) ⌝ }
     {
+        self.grid().size() - 1
     }
 }

@@ -12,9 +12,8 @@ pub returns : need.returns
 returns g c =
     let x = c .args .numbering .now in
     let m = g .N·Numbering .meaning x in
-    let a = c .in-Continue-cell-of .ensures tt in
     let v = c .cell-of .last .cell in
-    let f = cell-filled m (c .args .key) _ v (sym (a .refused)) (a .list) in
+    let f = cell-filled m (c .args .key) _ v (c .in-Continue-cell-of .field-0) (c .in-Continue-cell-of .ensures tt) in
     let s = c .args .step in
     let i = s .axis - 1 in
     neighbour-found m (g .N·Numbering·met .onekey x) (c .args .key) s (f .below)

@@ -20,8 +20,7 @@ returns g c =
     let x = c .args .self .now in
     let m = g .Self·Numbering .meaning x in
     let law = g .Self·Numbering·met .onekey x in
-    let a = c .in-Continue-cell-of .ensures tt in
     record {
-      answer = round-returned m law (c .args .key) _ _ (c .key-of .result) (a .refused) (a .list) (c .key-of .ensures);
+      answer = round-returned m law (c .args .key) _ _ (c .key-of .result) (c .in-Continue-cell-of .field-0) (c .in-Continue-cell-of .ensures tt) (c .key-of .ensures);
       undo = undoes m law;
     }
