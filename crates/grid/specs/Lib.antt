@@ -4,4 +4,5 @@ pub mod Boxes
 pub mod Corners
 pub mod Grids
 pub mod Refusals
+pub mod Sentences
 pub mod Steps

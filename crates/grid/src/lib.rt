@@ -24,3 +24,4 @@ pub use step::Direction;
 pub use step::Step;
 pub use telling::RefusalDisplay;
 pub use telling::Told;
+pub use telling::ToldDisplay;

@@ -1,5 +1,7 @@
 ghost use mathlib.Core.Path.{_≡_};
+ghost use Rattle.std.specs.declared.option.Option.the-variants.{Some};
 ghost use Rattle.grid.specs.Refusals.{number, told};
+ghost use Rattle.grid.specs.Sentences.{listed, reason, sentence};
 use crate::refusal::Refusal;
 use std::fmt;
 
@@ -81,7 +83,9 @@ impl Refusal {
     }
 
     // Why, in words.
-    fn reason(&self) -> &'static str {
+    fn reason(&self) -> &'static str
+        ensures { λ r. ⌜ now r ≡ reason (now (self .entry)) ⌝ }
+    {
         match *self {
             Refusal::Axes { .. } => "the number of axes is not 2 to 8",
             Refusal::States { .. } => "the number of states is not 1 to 4096",
@@ -115,17 +119,27 @@ impl Refusal {
     }
 }
 
+pub impl fmt::Display for Told as ToldDisplay {
+    ghost shown = { λ t. Some (listed t) };
+
+    fn fmt<W: fmt::Write>(&self, f: &mut fmt::Formatter<W>) -> fmt::Result {
+        match *self {
+            Told::Nothing => Ok(()),
+            Told::One(x) => write!(f, " ({x})"),
+            Told::Two(x, y) => write!(f, " ({x}, {y})"),
+        }
+    }
+}
+
 pub impl fmt::Display for Refusal as RefusalDisplay {
+    ghost shown = { λ r. Some (sentence r) };
+
     fn fmt<W: fmt::Write>(&self, f: &mut fmt::Formatter<W>) -> fmt::Result {
         let reason = self.reason();
-        match (self.number(), self.told()) {
-            (Some(number), Told::One(x)) => write!(f, "refused with {number}: {reason} ({x})"),
-            (Some(number), Told::Two(x, y)) => write!(
-                f,
-                "refused with {number}: {reason} ({x}, {y})"
-            ),
-            (Some(number), Told::Nothing) => write!(f, "refused with {number}: {reason}"),
-            (None, _) => write!(f, "refused: {reason}"),
+        let told = self.told();
+        match self.number() {
+            Some(number) => write!(f, "refused with {number}: {reason}{told}"),
+            None => write!(f, "refused: {reason}{told}"),
         }
     }
 }
