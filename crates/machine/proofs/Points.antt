@@ -1,10 +1,13 @@
 -- n-points by what they have on each axis: that tells them, and anything below the base makes one.
-use mathlib.Core.Path.{_≡_, refl, sym, ap, ap₂, subst, _∙_}
+use mathlib.Core.Path.{_≡_, sym, ap, ap₂, subst, _∙_}
+use mathlib.Core.List.{List}
 use Prim.Native.Nat.{ℕ, zero, suc, _+_, _-_, _*_, _/_, _%_, _^_, _≤_, _<_}
 use native.Mathlib.Nat.{div-div-eq-div-mul, pow-succ', pow-suc, pow-zero, div-one, mod-lt, div-add-mod', div-lt-iff-lt-mul}
 use native.Mathlib.Omega.{arith}
 use native.Mathlib.Decide.{decLt}
 use lib.Arith.{digits-div, digits-mod, digits-lt}
+use lib.ListN.{getD}
+use lib.Pow.{pow-mono}
 use Rattle.arithmetic.proofs.Powers.{power-pos, none-left}
 use Rattle.machine.specs.Machines.{point-at}
 
@@ -53,3 +56,27 @@ module _ (b : ℕ) (pos : 0 < b) where
       go (yes li) ih =
           point-high n (gathered b n f * b + f n) i li ∙ ap (λ (x : ℕ). point-at b n x i) (digits-div (gathered b n f) (h n (omega arith))) ∙ ih li
       go (no ge) ih = let e : i ≡ n = omega arith in rw e (point-low n (gathered b n f * b + f n) ∙ digits-mod (gathered b n f) (h n (omega arith)))
+
+pub two-pos : 0 < 2
+two-pos = omega arith
+
+-- what the coordinates of a list have at the place of weight b ^ k
+abbrev pub places : ℕ → ℕ → List ℕ → ℕ → ℕ
+places b k v i = getD v i 0 / b ^ k % b
+
+places-lt : (k : ℕ) (v : List ℕ) (i : ℕ) → places 2 k v i < 2
+places-lt k v i = mod-lt (getD v i 0 / 2 ^ k) {m = 2} two-pos
+
+-- the n-point of the first few
+pub few-places : (k : ℕ) (v : List ℕ) {m p : ℕ} → p ≡ gathered 2 m (places 2 k v) → m ≤ 8 → p < 256
+few-places k v {m} {p} e h =
+    let l = gathered-lt 2 two-pos m (places 2 k v) (λ i _. places-lt k v i) in
+    let w : 2 ^ m ≤ 2 ^ 8 = pow-mono h in
+    omega arith
+
+-- and of all
+pub all-places : (k : ℕ) (v : List ℕ) {n p : ℕ} → p ≡ gathered 2 n (places 2 k v) → (p < 2 ^ n) × ((i : ℕ) → i < n → point-at 2 n p i ≡ places 2 k v i)
+all-places k v {n} {p} e = (
+  subst (λ (x : ℕ). x < 2 ^ n) (sym e) (gathered-lt 2 two-pos n (places 2 k v) (λ i _. places-lt k v i)),
+  λ i h. ap (λ (x : ℕ). point-at 2 n x i) e ∙ gathered-at 2 two-pos n (places 2 k v) (λ i _. places-lt k v i) i h,
+)
