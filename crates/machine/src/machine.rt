@@ -18,7 +18,7 @@ pub trait Machine {
     // The order.
     ghost depth: { Self → ℕ };
 
-    // In each state every n-point stands exactly once.
+    // In each state every n-point stands exactly once: both laws of a numbering follow.
     law exact: { (x : Self) → Exact (model x) };
 
     law begins: { (x : Self) → T (model x .is-state (begin x)) };
@@ -51,7 +51,7 @@ pub trait Machine {
         requires small { ⌜ digit < 2 ^ model (now self) .n ⌝ }
         ensures { λ r. ⌜ r ≡ model (now (self .entry)) .next state digit ⌝ };
 
-    // From every state and at every order the machine is a lawful numbering. There is nothing to do: this is a promise.
+    // At every order within the limits and from every state this machine is a lawful numbering. That is a promise: it does nothing.
     fn lawful_at_every_order(&self)
         ensures { λ _. ⌜ AlwaysLawful (model (now (self .entry))) ⌝ }
     {}

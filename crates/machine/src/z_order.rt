@@ -4,7 +4,7 @@ ghost use Rattle.grid.specs.Grids.{grid-refusal};
 use grid::Grid;
 use grid::Refusal;
 
-// The Z numbering: a key has the bits of the coordinates by turns, and each digit is its own n-point. It is not unbroken.
+// The Z numbering: a key has the bits of the coordinates by turns, axis 1 first, most significant first. It is not unbroken.
 #[derive(Drop)]
 pub struct ZOrder {
     pub(crate) grid: Grid,
