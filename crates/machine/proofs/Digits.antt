@@ -1,6 +1,6 @@
 -- The cell of a key by its first digit and the others, and by the digits above a level.
 use mathlib.Core.Path.{_≡_, sym, ap, ap₂, subst, _∙_}
-use Prim.Native.Nat.{ℕ, zero, suc, _+_, _*_, _/_, _%_, _^_, _≤_, _<_}
+use Prim.Native.Nat.{ℕ, zero, suc, _+_, _*_, _/_, _%_, _^_, _<_}
 use native.Mathlib.Nat.{div-eq-of-lt, mul-add, mul-suc, suc-add, zero-add, add-comm, mul-assoc, mul-add-div-right}
 use lib.Arith.{digits-div, digits-mod, digits-lt}
 use lib.Pow.{pow-add}

@@ -1,12 +1,11 @@
 -- An exact machine is a lawful numbering, at every order and from every state.
 use mathlib.Core.Path.{_≡_, sym, ap, subst, _∙_}
 use mathlib.Core.List.{List}
-use Prim.Native.Nat.{ℕ, _+_, _-_, _*_, _/_, _^_, _≤_, _<_}
+use Prim.Native.Nat.{ℕ, _+_, _-_, _/_, _^_, _≤_, _<_}
 use native.Mathlib.Omega.{arith}
 use lib.Dec.{T}
 use lib.ListN.{length, getD}
-use Rattle.grid.specs.Grids.{InGrid, Limits}
-use Rattle.numbering.specs.Meaning.{OneKey, Nesting, Lawful}
+use Rattle.numbering.specs.Meaning.{OneKey, Nesting}
 use Rattle.machine.specs.Machines.{Machine, keys, coord, Exact}
 use Rattle.machine.specs.Means.{cell-from, means, AlwaysLawful}
 use Rattle.machine.proofs.Points.{two-pos}
