@@ -22,6 +22,8 @@ pub use grid_box::GridBox;
 pub use refusal::Refusal;
 pub use step::Direction;
 pub use step::Step;
+pub use telling::RefusalDebug;
 pub use telling::RefusalDisplay;
+pub use telling::RefusalError;
 pub use telling::Told;
 pub use telling::ToldDisplay;

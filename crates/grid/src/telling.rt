@@ -3,6 +3,7 @@ ghost use Rattle.std.specs.declared.option.Option.the-variants.{Some};
 ghost use Rattle.grid.specs.Refusals.{number, told};
 ghost use Rattle.grid.specs.Sentences.{listed, reason, sentence};
 use crate::refusal::Refusal;
+use std::error::Error;
 use std::fmt;
 
 // What a refusal tells: nothing, one number or two.
@@ -143,3 +144,12 @@ pub impl fmt::Display for Refusal as RefusalDisplay {
         }
     }
 }
+
+// As it is shown to a person.
+pub impl fmt::Debug for Refusal as RefusalDebug {
+    fn fmt<W: fmt::Write>(&self, f: &mut fmt::Formatter<W>) -> fmt::Result {
+        write!(f, "{self}")
+    }
+}
+
+pub impl Error for Refusal as RefusalError {}

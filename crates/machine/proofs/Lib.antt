@@ -5,4 +5,3 @@ pub mod Told
 pub mod Laws
 pub mod ZExact
 mod Along
-mod Inside

@@ -2,7 +2,7 @@ ghost use mathlib.Core.Path.{_≡_};
 ghost use Prim.Native.Nat.{ℕ, _^_, _<_};
 ghost use lib.Dec.{T};
 ghost use Rattle.grid.specs.Grids.{Limits};
-ghost use Rattle.machine.specs.Machines.{Machine as Model, Exact};
+ghost use Rattle.machine.specs.Machines.{Machine as Model, Exact, keys};
 ghost use Rattle.machine.specs.Means.{AlwaysLawful};
 use grid::Grid;
 
@@ -51,8 +51,11 @@ pub trait Machine {
         requires small { ⌜ digit < 2 ^ model (now self) .n ⌝ }
         ensures { λ r. ⌜ r ≡ model (now (self .entry)) .next state digit ⌝ };
 
-    // At every order within the limits and from every state this machine is a lawful numbering. That is a promise: it does nothing.
-    fn lawful_at_every_order(&self)
-        ensures { λ _. ⌜ AlwaysLawful (model (now (self .entry))) ⌝ }
-    {}
+    // How many keys there are. At every order within the limits, and from every state, this machine is a lawful numbering.
+    fn size(&self) -> u64
+        ensures count { λ r. ⌜ r ≡ keys (model (now (self .entry))) (depth (now (self .entry))) ⌝ }
+        ensures lawful { λ _. ⌜ AlwaysLawful (model (now (self .entry))) ⌝ }
+    {
+        self.grid().size()
+    }
 }

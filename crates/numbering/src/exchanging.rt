@@ -25,14 +25,6 @@ impl<N: Numbering> Exchange<N> {
         }
     }
 
-    // The two axes, as they were set.
-    pub fn axes_exchanged(&self) -> (u32, u32)
-        ensures first { λ r. ⌜ r .0 ≡ now (self .entry) .first ⌝ }
-        ensures second { λ r. ⌜ r .1 ≡ now (self .entry) .second ⌝ }
-    {
-        (self.first, self.second)
-    }
-
     // Exchanges other axes, counted from 1; refused, it keeps the former.
     pub fn set_axes(&mut self, first: u32, second: u32) -> Result<(), Refusal>
         ensures refused { λ r. ⌜ refusal r ≡ axes-refusal (N·Numbering .meaning (now (self .entry) .inner)) first second ⌝ }

@@ -21,12 +21,6 @@ impl<N: Numbering> Mirror<N> {
         Mirror { inner, axis: 1 }
     }
 
-    pub fn axis(&self) -> u32
-        ensures { λ r. ⌜ r ≡ now (self .entry) .axis ⌝ }
-    {
-        self.axis
-    }
-
     // Mirrors on another axis, counted from 1; refused, it keeps the former.
     pub fn set_axis(&mut self, axis: u32) -> Result<(), Refusal>
         ensures refused { λ r. ⌜ refusal r ≡ axis-refusal (N·Numbering .meaning (now (self .entry) .inner)) axis ⌝ }
