@@ -4,6 +4,8 @@
 mod refusal;
 // The number of a refusal, what it tells, and its sentence.
 mod telling;
+// Want of memory as a refusal.
+mod memory;
 // A grid: its axes and its order, within the limits.
 mod grid;
 // Making a grid, its side and its size.
@@ -18,12 +20,26 @@ mod grid_box;
 mod boxes;
 
 pub use grid::Grid;
+pub use grid::GridDebug;
+pub use grid::GridEq;
+pub use grid::GridPartialEq;
 pub use grid_box::GridBox;
+pub use memory::RefusalFromAlloc;
+pub use memory::RefusalFromRefused;
 pub use refusal::Refusal;
 pub use step::Direction;
+pub use step::DirectionDebug;
+pub use step::DirectionEq;
+pub use step::DirectionPartialEq;
 pub use step::Step;
+pub use step::StepDebug;
+pub use step::StepEq;
+pub use step::StepPartialEq;
 pub use telling::RefusalDebug;
 pub use telling::RefusalDisplay;
 pub use telling::RefusalError;
 pub use telling::Told;
+pub use telling::ToldDebug;
 pub use telling::ToldDisplay;
+pub use telling::ToldEq;
+pub use telling::ToldPartialEq;
