@@ -4,12 +4,14 @@ use crate::refusal::Refusal;
 use std::alloc::AllocError;
 use std::alloc::Refused;
 
+const NO_MEMORY: Refusal = Refusal::Memory;
+
 // Want of memory is a refusal too.
 pub impl From<AllocError> for Refusal as RefusalFromAlloc {
     ghost converts = { λ _ r. r ≡ Memory };
 
     fn from(_error: AllocError) -> Refusal {
-        Refusal::Memory
+        NO_MEMORY
     }
 }
 
@@ -18,6 +20,6 @@ pub impl<T: Drop> From<Refused<T>> for Refusal as RefusalFromRefused {
     ghost converts = { λ _ r. r ≡ Memory };
 
     fn from(_error: Refused<T>) -> Refusal {
-        Refusal::Memory
+        NO_MEMORY
     }
 }

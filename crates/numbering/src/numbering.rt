@@ -6,6 +6,22 @@ ghost use Rattle.numbering.specs.Meaning.{Meaning, OneKey, Nesting};
 use grid::Grid;
 use grid::Refusal;
 
+// A numbering gives each cell of a grid a key, and each key a cell.
+//
+// A grid has n axes and an order k: every axis has 2^k coordinates, and there are N = 2^(n k) cells. A cell is a list
+// of n coordinates, axis 1 first. Keys run from 0 to N - 1.
+//
+// What a numbering means is n, k and one function from keys to cells, its ghost member `meaning`. It keeps two laws.
+//
+//   One key   Each key below N has a cell of the grid, and each cell of the grid has exactly one key below N.
+//   Nesting   For each j from 0 to k, two keys have one quotient by 2^(n j) exactly when their cells have one quotient
+//             by 2^j on every axis. So the keys of a block, which follow one another, are the cells of a cube.
+//
+// An implementation gives the grid, the cell of a key and the key of a cell, and proves the laws. Everything above is
+// generic: it is proved once, from the laws, for every numbering there is.
+//
+// Order of refusals. A key given: 10, where it is not below N. A list for a cell: 11, where it has not n places. A cell
+// given: 11, then 12, where a coordinate is not below 2^k, telling the lowest such axis. A refused call alters nothing.
 pub trait Numbering {
     ghost meaning: { Self → Meaning };
 
