@@ -3,5 +3,9 @@ pub mod Listed
 pub mod Digits
 pub mod Told
 pub mod Laws
+pub mod Faced
+pub mod Crossing
+pub mod Unbroken
+pub mod BitRule
 pub mod ZExact
 mod Along

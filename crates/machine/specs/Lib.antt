@@ -1,3 +1,4 @@
 pub mod Machines
 pub mod Means
+pub mod Rules
 pub mod Z

@@ -3,11 +3,13 @@
 -- listed        — the values of f at the numbers below n, ascending
 -- cell-from     — the cell of a key
 -- means         — the meaning
--- AlwaysLawful  — it is lawful at every order within the limits, from every state
+-- AlwaysLawful    — it is lawful at every order within the limits, from every state
+-- AlwaysUnbroken  — consecutive cells share a face at every order, from every state
 use mathlib.Core.List.{List, [], _∷_}
 use Prim.Native.Nat.{ℕ, zero, suc}
 use lib.Dec.{T}
 use Rattle.grid.specs.Grids.{Limits}
+use Rattle.numbering.specs.Faces.{FaceToFace}
 use Rattle.numbering.specs.Meaning.{Meaning, Lawful}
 use Rattle.machine.specs.Machines.{Machine, coord}
 
@@ -23,3 +25,6 @@ means M k s = record { axes = M .n; order = k; cell = cell-from M k s }
 
 abbrev pub AlwaysLawful : {S : Type 0} → Machine 2 S → Type 0
 AlwaysLawful {S} M = (k : ℕ) → Limits (M .n) k → (s : S) → T (M .is-state s) → Lawful (means M k s)
+
+abbrev pub AlwaysUnbroken : {S : Type 0} → Machine 2 S → Type 0
+AlwaysUnbroken {S} M = (k : ℕ) (s : S) → T (M .is-state s) → FaceToFace (means M k s)

@@ -8,6 +8,10 @@ mod bits;
 mod follow;
 // The same with what is refused: the calls of a numbering, for any machine.
 mod calls;
+// The trait of machines whose consecutive cells share a face.
+mod joined;
+// Their steps.
+mod steps;
 // The Z numbering: making and setting one.
 mod z_order;
 // The machine that it follows.
@@ -17,7 +21,9 @@ mod z_numbering;
 
 pub use calls::cell_by;
 pub use calls::key_by;
+pub use joined::JoinedMachine;
 pub use machine::Machine;
+pub use steps::step_by;
 pub use z_machine::ZOrderMachine;
 pub use z_numbering::ZOrderNumbering;
 pub use z_order::ZOrder;

@@ -1,20 +1,28 @@
 use crate::archive::Row;
+use crate::faces::all_shared;
 use crate::survey::Sounding;
+use diagram::Reckoned;
+use diagram::ReckonedNumbering;
+use diagram::ReckonedUnbroken;
 use grid::Direction;
 use grid::GridBox;
 use grid::RefusalDisplay;
+use grid::RefusalError;
 use grid::Step;
 use numbering::Numbering;
+use numbering::Unbroken;
 use numbering::neighbour;
+use std::error::AnyError;
 use std::io;
 
-// The records as they came, each with its cell and its key.
-pub(crate) fn records<N: Numbering>(
+// The records as they came, each with its cell and its key on both curves.
+pub(crate) fn records<N: Numbering, M: Numbering>(
     rt: &LibcRuntime,
-    numbering: &N,
+    hilbert: &N,
+    z_order: &M,
     soundings: &[Sounding],
 ) -> io::Result<()> {
-    let grid = numbering.grid();
+    let grid = hilbert.grid();
     let axes = grid.axes();
     let order = grid.order();
     let side = grid.side();
@@ -24,17 +32,25 @@ pub(crate) fn records<N: Numbering>(
         "A grid of {axes} axes and order {order}: {side} coordinates on an axis, {size} cells."
     )?;
     println!(rt, "")?;
-    println!(rt, "The records, with their cells and their Z keys")?;
-    println!(rt, "  no  station        east  north  depth    key")?;
+    println!(
+        rt,
+        "The records, with their cells and their keys on both curves"
+    )?;
+    println!(rt, "  no  station        east  north  depth  Hilbert     Z")?;
     for (number, sounding) in soundings.iter().enumerate() {
         let station = sounding.station;
         let [east, north, depth] = sounding.cell;
-        match numbering.key_of(&sounding.cell) {
-            Ok(key) => println!(
+        match (
+            hilbert.key_of(&sounding.cell),
+            z_order.key_of(&sounding.cell),
+        ) {
+            (Ok(key), Ok(z)) => println!(
                 rt,
-                "  {number:>2}  {station:<13}  {east:>4}  {north:>5}  {depth:>5}  {key:>5}"
+                "  {number:>2}  {station:<13}  {east:>4}  {north:>5}  {depth:>5}  {key:>7}  {z:>4}"
             )?,
-            Err(refusal) => println!(rt, "  {number:>2}  {station:<13}  {refusal}")?,
+            (Err(refusal), _) | (_, Err(refusal)) => {
+                println!(rt, "  {number:>2}  {station:<13}  {refusal}")?
+            }
         }
     }
     Ok(())
@@ -43,7 +59,7 @@ pub(crate) fn records<N: Numbering>(
 // The table in key order.
 pub(crate) fn table(rt: &LibcRuntime, table: &[Row], soundings: &[Sounding]) -> io::Result<()> {
     println!(rt, "")?;
-    println!(rt, "The table, in key order")?;
+    println!(rt, "The table, in the order of the Hilbert keys")?;
     list(rt, table, soundings)
 }
 
@@ -111,4 +127,25 @@ fn beside<N: Numbering>(
         Ok(other) => print!(rt, "{word} {other}"),
         Err(refusal) => print!(rt, "{word} {refusal}"),
     }
+}
+
+// Every step on a small grid of 2, 3 and 4 axes.
+pub(crate) fn faces(rt: &LibcRuntime) -> Result<(), AnyError> {
+    println!(rt, "")?;
+    println!(rt, "Consecutive keys, step by step")?;
+    for axes in 2u32..5 {
+        let mut numbering = Reckoned::new();
+        numbering.set(axes, 2)?;
+        let steps = numbering.steps();
+        let word = if all_shared(&numbering)? {
+            "share"
+        } else {
+            "do NOT share"
+        };
+        println!(
+            rt,
+            "  {axes} axes, order 2: {steps} steps, cells of consecutive keys {word} a face"
+        )?;
+    }
+    Ok(())
 }

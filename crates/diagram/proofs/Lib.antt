@@ -1,0 +1,6 @@
+pub mod Computed
+pub mod Kept
+pub mod Told
+pub mod Reckon
+pub mod Grow
+pub mod Published

@@ -1,0 +1,6 @@
+pub mod Hindex
+pub mod Numbered
+pub mod Pairs
+pub mod Reckons
+pub mod Rows
+pub mod Sequences
