@@ -1,5 +1,7 @@
-// Full scans of small grids, and refusals at their edges. There is nothing here but tests.
+// Full scans of small grids, printed tables, and refusals at their edges. There is nothing here but tests.
 #[cfg(test)]
 mod edges;
+#[cfg(test)]
+mod hilbert;
 #[cfg(test)]
 mod undo;
