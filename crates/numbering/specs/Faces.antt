@@ -2,6 +2,7 @@
 --
 -- Leads      — a step leads from one cell to another: one coordinate changes, by one
 -- ShareFace  — some step leads from one cell to the other
+-- OneStep    — no two steps lead from one cell to the same other
 -- FaceToFace — the cells of consecutive keys share a face
 use mathlib.Core.Path.{_≡_}
 use mathlib.Core.List.{List}
@@ -29,3 +30,6 @@ ShareFace axes u v = (s : Step) × Leads axes s u v
 
 abbrev pub FaceToFace : Meaning → Type 0
 FaceToFace m = (c : ℕ) → c + 1 < size m → ShareFace (m .axes) (m .cell c) (m .cell (c + 1))
+
+abbrev pub OneStep : Type 0
+OneStep = (axes : ℕ) (s t : Step) (u v : List ℕ) → Leads axes s u v → Leads axes t u v → s ≡ t
