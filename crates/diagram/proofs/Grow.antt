@@ -12,6 +12,8 @@ use lib.Dec.{T, eqb, ltb, eqb→eq, ltb→lt}
 use lib.Bits.{bitXor}
 use lib.ListN.{length, getD, take, drop, set, length-append, length-reverse, length-map, List·getD-append}
 use lib.Seq.{paste, paste-suc, length-take-le, take-at, drop-at, take-all, drop-drop, take-append-le, drop-append-add}
+use Rattle.grid.proofs.Limited.{two-to-eight}
+use Rattle.diagram.proofs.Computed.{both-left, both-right}
 use Rattle.diagram.specs.Rows.{x2, repeat-last, lead-last, doubled, invert-upper}
 
 -- the half that steps 1 and 2 make
@@ -69,34 +71,19 @@ right n = cond (eqb (length (x2 n)) (2 ^ suc n)) (allBelow (2 ^ n) (x2 n)) false
 all-right : (n : ℕ) → 1 ≤ n → n ≤ 8 → T (right n)
 all-right zero h k = absurd (omega arith)
 all-right (suc zero) h k = tt
-all-right (suc (suc zero)) h k = tt
-all-right (suc (suc (suc zero))) h k = tt
-all-right (suc (suc (suc (suc zero)))) h k = tt
-all-right (suc (suc (suc (suc (suc zero))))) h k = tt
-all-right (suc (suc (suc (suc (suc (suc zero)))))) h k = tt
-all-right (suc (suc (suc (suc (suc (suc (suc zero))))))) h k = tt
-all-right (suc (suc (suc (suc (suc (suc (suc (suc zero)))))))) h k = tt
-all-right (suc (suc (suc (suc (suc (suc (suc (suc (suc n))))))))) h k = absurd (omega arith)
-
-and-left : (a b : Bool) → T (cond a b false) → T a
-and-left true b t = tt
-and-left false b t = t
-
-and-right : (a b : Bool) → T (cond a b false) → T b
-and-right true b t = t
-and-right false b t = absurd t
+all-right (suc (suc n)) h k = two-to-eight (λ (n : ℕ). T (right n)) tt tt tt tt tt tt tt (suc (suc n)) (omega arith) k
 
 pub length-x2 : (n : ℕ) → 1 ≤ n → n ≤ 8 → length (x2 n) ≡ 2 ^ suc n
-length-x2 n h k = eqb→eq (length (x2 n)) (2 ^ suc n) (and-left (eqb (length (x2 n)) (2 ^ suc n)) (allBelow (2 ^ n) (x2 n)) (all-right n h k))
+length-x2 n h k = eqb→eq (length (x2 n)) (2 ^ suc n) (both-left (eqb (length (x2 n)) (2 ^ suc n)) (allBelow (2 ^ n) (x2 n)) (all-right n h k))
 
 below-at : (m : ℕ) (l : List ℕ) → T (allBelow m l) → (i : ℕ) → i < length l → getD l i 0 < m
 below-at m [] t i h = absurd (omega arith)
-below-at m (x ∷ l) t zero h = ltb→lt x m (and-left (ltb x m) (allBelow m l) t)
-below-at m (x ∷ l) t (suc i) h = below-at m l (and-right (ltb x m) (allBelow m l) t) i (omega arith)
+below-at m (x ∷ l) t zero h = ltb→lt x m (both-left (ltb x m) (allBelow m l) t)
+below-at m (x ∷ l) t (suc i) h = below-at m l (both-right (ltb x m) (allBelow m l) t) i (omega arith)
 
 pub x2-lt : (n : ℕ) → 1 ≤ n → n ≤ 8 → (i : ℕ) → i < 2 ^ suc n → getD (x2 n) i 0 < 2 ^ n
 x2-lt n h k i l =
-    below-at (2 ^ n) (x2 n) (and-right (eqb (length (x2 n)) (2 ^ suc n)) (allBelow (2 ^ n) (x2 n)) (all-right n h k)) i
+    below-at (2 ^ n) (x2 n) (both-right (eqb (length (x2 n)) (2 ^ suc n)) (allBelow (2 ^ n) (x2 n)) (all-right n h k)) i
     (omega (arith, length-x2 n h k))
 
 -- the builder's list, from the sequence l of one axis fewer in front of what was there

@@ -8,6 +8,7 @@ use native.Mathlib.Omega.{arith}
 use lib.Dec.{T, eqb, ltb, eqb→eq, ltb→lt, lt→ltb}
 use lib.Bits.{bitXor, xor-lt, xor-assoc}
 use lib.Pow.{ones-lt, pow-pos}
+use Rattle.grid.proofs.Limited.{two-to-eight}
 use Rattle.diagram.specs.declared.pair.Pair.{Pair}
 use Rattle.diagram.specs.Pairs.{point-of, next-of, origin, pair-machine}
 use Rattle.diagram.specs.Rows.{x1, rotated, row-start, row-shift, top-axis}
@@ -64,16 +65,7 @@ Right n =
     × T (each n (λ h. each (2 ^ n - 1) (joins n h)))
 
 all-right : (n : ℕ) → 2 ≤ n → n ≤ 8 → Right n
-all-right zero h k = absurd (omega arith)
-all-right (suc zero) h k = absurd (omega arith)
-all-right (suc (suc zero)) h k = (tt, tt, tt, tt)
-all-right (suc (suc (suc zero))) h k = (tt, tt, tt, tt)
-all-right (suc (suc (suc (suc zero)))) h k = (tt, tt, tt, tt)
-all-right (suc (suc (suc (suc (suc zero))))) h k = (tt, tt, tt, tt)
-all-right (suc (suc (suc (suc (suc (suc zero)))))) h k = (tt, tt, tt, tt)
-all-right (suc (suc (suc (suc (suc (suc (suc zero))))))) h k = (tt, tt, tt, tt)
-all-right (suc (suc (suc (suc (suc (suc (suc (suc zero)))))))) h k = (tt, tt, tt, tt)
-all-right (suc (suc (suc (suc (suc (suc (suc (suc (suc n))))))))) h k = absurd (omega arith)
+all-right = two-to-eight Right (tt, tt, tt, tt) (tt, tt, tt, tt) (tt, tt, tt, tt) (tt, tt, tt, tt) (tt, tt, tt, tt) (tt, tt, tt, tt) (tt, tt, tt, tt)
 
 and-make : (a b : Bool) → T a → T b → T (a && b)
 and-make true b s t = t

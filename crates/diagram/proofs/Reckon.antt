@@ -6,6 +6,7 @@ use native.Mathlib.Omega.{arith}
 use lib.Bits.{bitXor, xor-lt}
 use lib.Dec.{T}
 use lib.Pow.{shr-le, pow-mono}
+use Rattle.grid.proofs.Limited.{two-to-eight}
 use Rattle.diagram.specs.declared.pair.Pair.{Pair}
 use Rattle.diagram.specs.Pairs.{point-of, origin, pair-machine}
 use Rattle.diagram.specs.Reckons.{gray-undone}
@@ -17,18 +18,8 @@ pub narrow : (n d : ℕ) → n ≤ 8 → d < 2 ^ n → d < 256
 narrow n d h l = let m : 2 ^ n ≤ 2 ^ 8 = pow-mono h in omega arith
 
 pub origin-state : (n : ℕ) → 2 ≤ n → n ≤ 8 → T (pair-machine n .is-state origin)
-origin-state zero h k = absurd (omega arith)
-origin-state (suc zero) h k = absurd (omega arith)
-origin-state (suc (suc zero)) h k = tt
-origin-state (suc (suc (suc zero))) h k = tt
-origin-state (suc (suc (suc (suc zero)))) h k = tt
-origin-state (suc (suc (suc (suc (suc zero))))) h k = tt
-origin-state (suc (suc (suc (suc (suc (suc zero)))))) h k = tt
-origin-state (suc (suc (suc (suc (suc (suc (suc zero))))))) h k = tt
-origin-state (suc (suc (suc (suc (suc (suc (suc (suc zero)))))))) h k = tt
-origin-state (suc (suc (suc (suc (suc (suc (suc (suc (suc n))))))))) h k = absurd (omega arith)
+origin-state = two-to-eight (λ (n : ℕ). T (pair-machine n .is-state origin)) tt tt tt tt tt tt tt
 
--- ---- what the program reckons
 pub gray-lt : (n d : ℕ) → d < 2 ^ n → x1 d < 2 ^ n
 gray-lt n d h = xor-lt n d (d / 2) h (let l : d / 2 ≤ d = shr-le d 1 in omega arith)
 

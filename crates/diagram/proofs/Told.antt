@@ -1,10 +1,10 @@
 -- The rows are as they are reckoned: computed for 2 to 8 axes.
 use mathlib.Core.Path.{_≡_}
 use mathlib.Core.Bool.{Bool}
-use Prim.Native.Nat.{ℕ, zero, suc, _^_, _≤_, _<_}
-use native.Mathlib.Omega.{arith}
+use Prim.Native.Nat.{ℕ, _^_, _≤_, _<_}
 use lib.Count.{trailingZeros}
 use lib.Dec.{T, eqb, eqb→eq}
+use Rattle.grid.proofs.Limited.{two-to-eight}
 use Rattle.diagram.specs.Reckons.{start-told, shift-told}
 use Rattle.diagram.specs.Rows.{row-start, row-shift}
 use Rattle.diagram.proofs.Computed.{both, both-left, both-right, each, at}
@@ -14,16 +14,7 @@ told n d = both (eqb (row-start n d) (start-told d)) (eqb (row-shift n d) (shift
 
 all-told : (n : ℕ) → 2 ≤ n → n ≤ 8 → T (each (2 ^ n) (told n))
 unfolding trailingZeros
-all-told zero h k = absurd (omega arith)
-all-told (suc zero) h k = absurd (omega arith)
-all-told (suc (suc zero)) h k = tt
-all-told (suc (suc (suc zero))) h k = tt
-all-told (suc (suc (suc (suc zero)))) h k = tt
-all-told (suc (suc (suc (suc (suc zero))))) h k = tt
-all-told (suc (suc (suc (suc (suc (suc zero)))))) h k = tt
-all-told (suc (suc (suc (suc (suc (suc (suc zero))))))) h k = tt
-all-told (suc (suc (suc (suc (suc (suc (suc (suc zero)))))))) h k = tt
-all-told (suc (suc (suc (suc (suc (suc (suc (suc (suc n))))))))) h k = absurd (omega arith)
+all-told = two-to-eight (λ (n : ℕ). T (each (2 ^ n) (told n))) tt tt tt tt tt tt tt
 
 module _ (n : ℕ) (lo : 2 ≤ n) (hi : n ≤ 8) (d : ℕ) (h : d < 2 ^ n) where
   told-at : T (told n d)
