@@ -1,5 +1,5 @@
--- The diagram: the states that are met from state (0, 0), numbered as they are first met, and their entries.
--- States are taken by number, and in each its n-points in ascending order.
+-- The diagram: the states that can be reached from (0, 0), with their numbers, and their entries.
+-- A state is numbered at its first meeting. The search looks at the states in the order of their numbers, and at the n-points of each from 0 upwards.
 --
 -- below             — the numbers below n, ascending
 -- digit-of          — the digit that has an n-point in a state

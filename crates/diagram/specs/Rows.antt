@@ -15,24 +15,24 @@ use lib.ListN.{length, getD, take, drop}
 abbrev pub x1 : ℕ → ℕ
 x1 y = bitXor y (y / 2)
 
--- The four steps, in n bits of which `lead` is the leading one. First: the last member takes the value of the member before it.
+-- The four steps, in n bits of which `lead` is the leftmost one. First: the final member becomes a copy of its predecessor.
 abbrev pub repeat-last : List ℕ → List ℕ
 repeat-last [] = []
 repeat-last (a ∷ []) = a ∷ []
 repeat-last (a ∷ (b ∷ [])) = a ∷ (a ∷ [])
 repeat-last (a ∷ (b ∷ (c ∷ r))) = a ∷ repeat-last (b ∷ (c ∷ r))
 
--- Second: the last member gets a leading bit 1, every other member a leading bit 0.
+-- Second: every member is widened on the left, the final one by a 1, the others by a 0.
 abbrev pub lead-last : ℕ → List ℕ → List ℕ
 lead-last lead [] = []
 lead-last lead (a ∷ []) = (a + lead) ∷ []
 lead-last lead (a ∷ (b ∷ r)) = a ∷ lead-last lead (b ∷ r)
 
--- Third: the sequence is doubled by its mirror image.
+-- Third: the sequence is appended once more, back to front.
 abbrev pub doubled : List ℕ → List ℕ
 doubled l = l ++ reverse l
 
--- Fourth: each member of the upper half has its leading bit inverted.
+-- Fourth: what was appended has its leftmost bit flipped.
 abbrev pub invert-upper : ℕ → List ℕ → List ℕ
 invert-upper lead l = take (length l / 2) l ++ map (bitXor lead) (drop (length l / 2) l)
 

@@ -14,8 +14,8 @@ use grid::Refusal;
 // What a numbering means is n, k and one function from keys to cells, its ghost member `meaning`. It keeps two laws.
 //
 //   One key   Each key below N has a cell of the grid, and each cell of the grid has exactly one key below N.
-//   Nesting   For each j from 0 to k, two keys have one quotient by 2^(n j) exactly when their cells have one quotient
-//             by 2^j on every axis. So the keys of a block, which follow one another, are the cells of a cube.
+//   Nesting   At every level j up to k the runs of 2^(n j) keys are the cubes of side 2^j: two keys agree in their
+//             quotient by 2^(n j) if and only if their cells agree in every coordinate's quotient by 2^j.
 //
 // An implementation gives the grid, the cell of a key and the key of a cell, and proves the laws. Everything above is
 // generic: it is proved once, from the laws, for every numbering there is.
