@@ -1,5 +1,7 @@
 // Hilbert's curve for 2 to 8 axes: its rows, its states and the numbering that reckons with them.
 
+#![tactic(auto)]
+
 // A state.
 mod pair;
 // An entry of a table of states.

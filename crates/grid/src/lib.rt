@@ -1,5 +1,7 @@
 // The vocabulary of everything above: what is refused, grids and their limits, steps, and boxes.
 
+#![tactic(auto)]
+
 // What a call refuses, each case with its number.
 mod refusal;
 // The number of a refusal, what it tells, and its sentence.

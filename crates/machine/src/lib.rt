@@ -1,5 +1,7 @@
 // Machines: numberings that are followed digit by digit, in both directions, and the simplest of them.
 
+#![tactic(auto)]
+
 // The trait of every machine.
 mod machine;
 // Bits of keys, n-points and coordinates.

@@ -1,4 +1,7 @@
 // How long a key takes: nanoseconds for a cell and for a key, by table and by reckoning, at the greatest order of each number of axes.
+
+#![tactic(auto)]
+
 use diagram::Reckoned;
 use grid::Refusal;
 use numbering::Numbering;

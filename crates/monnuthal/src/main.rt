@@ -1,5 +1,8 @@
 // With no word a survey archive, from its records to a search: cells, keys, the table in key order, a box and the rows in it.
 // With words a tool for pipelines.
+
+#![tactic(auto)]
+
 mod archive;
 mod faces;
 mod report;

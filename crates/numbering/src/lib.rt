@@ -1,5 +1,7 @@
 // What a numbering means, its laws, and the turnings over any numbering.
 
+#![tactic(auto)]
+
 // The trait of every numbering.
 mod numbering;
 // The trait of those whose consecutive cells share a face.

@@ -1,4 +1,7 @@
 // Full scans of small grids, printed tables, and refusals at their edges. There is nothing here but tests.
+
+#![tactic(auto)]
+
 #[cfg(test)]
 mod diagrams;
 #[cfg(test)]

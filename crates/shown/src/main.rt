@@ -1,4 +1,7 @@
 // What each command of the program prints, on words that are fixed here: its output is compared with a stored one.
+
+#![tactic(auto)]
+
 use tool::print_diagram;
 
 fn main(rt: HostRuntime) -> anyhow::Result<()> {

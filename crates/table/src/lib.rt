@@ -1,5 +1,7 @@
 // Tables of states: the check of any list, and the numbering by an accepted one.
 
+#![tactic(auto)]
+
 // The rules that a table keeps.
 mod rule;
 // An entry by its state and its digit.
