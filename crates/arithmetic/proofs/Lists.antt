@@ -1,5 +1,5 @@
 -- Lists by their members.
-use Rattle.std.proofs.Common.{◌≡◌, ℕ, zero, suc, ◌<◌, List, [], ◌∷◌, length, get_or, refl, ap₂, arith}
+use Rattle.std.proofs.Common.{◌≡◌, ℕ, suc, ◌<◌, List, [], ◌∷◌, length, get_or, refl, ap₂, arith}
 
 -- two lists of one length with the same members
 pub same_members : (u v : List ℕ) → length u ≡ length v → ((i : ℕ) → i < length v → get_or u i 0 ≡ get_or v i 0) → u ≡ v

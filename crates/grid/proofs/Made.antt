@@ -1,5 +1,5 @@
 -- Making a box: its eight places, and its law.
-use Rattle.std.proofs.Common.{◌≡◌, ℕ, ◌-◌, ◌<◌, ◌≤◌, List, ◌++◌, length, get_or, drop, replicate, None, sym, ap, ◌∙◌, arith}
+use Rattle.std.proofs.Common.{◌≡◌, ℕ, ◌-◌, ◌<◌, ◌≤◌, List, ◌++◌, length, get_or, drop, replicate, None, ap, ◌∙◌, arith}
 use Rattle.std.proofs.lemmas.List.{drop-replicate, get_or_append_left}
 use Rattle.std.proofs.lemmas.Bool.{ltb-false}
 use Rattle.grid.specs.Axes.{lowest}

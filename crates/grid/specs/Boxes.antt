@@ -4,7 +4,7 @@
 -- Spans        — a box has these corners
 -- Placed       — what the lent place holds afterwards: the new box, or the former one if the call was refused
 -- holds        — a cell lies in a box
-use Rattle.std.specs.Prelude.{◌≡◌, ℕ, ◌<◌, ◌≤◌, Bool, cond, not, ◌&&◌, ◌||◌, List, length, Some, None, Option, ◌==◌, nat_le, nat_lt, slice_index}
+use Rattle.std.specs.Prelude.{◌≡◌, ℕ, Bool, cond, not, ◌&&◌, ◌||◌, List, length, Some, None, Option, ◌==◌, nat_le, nat_lt, slice_index}
 use Rattle.grid.specs.declared.refusal.Refusal.{Refusal}
 use Rattle.grid.specs.declared.refusal.Refusal.TheVariants.{CornerLengths, LowAboveHigh}
 use Rattle.grid.specs.declared.grid_box.GridBox.{GridBox}

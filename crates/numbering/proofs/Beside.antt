@@ -1,5 +1,5 @@
 -- The cell beside another has a key, and a step leads to it.
-use Rattle.std.proofs.Common.{◌≡◌, ℕ, ◌+◌, ◌-◌, ◌<◌, ◌≤◌, Bool, true, false, cond, eqb, ltb, ◌≢◌, List, length, get_or, set, Some, None, Ok, Err, Option, Result, sym, refl, ap, ◌∙◌, subst, subst₂, ⊎_elim, arith, length-set, get_or-set_other, get_or-set_same}
+use Rattle.std.proofs.Common.{◌≡◌, ℕ, ◌-◌, ◌<◌, ◌≤◌, Bool, true, false, cond, ltb, List, length, get_or, set, Some, None, Option, Result, sym, ap, ◌∙◌, subst, ⊎_elim, arith, length-set, get_or-set_other, get_or-set_same}
 use Rattle.std.proofs.lemmas.Bool.{cases_eq, cond-true, cond-false, lt-ltb}
 use Rattle.std.proofs.lemmas.Bool.Decides.{nat_tests}
 use Rattle.std.proofs.lemmas.Result.{IfOk-weaker}
@@ -10,7 +10,7 @@ use Rattle.grid.specs.declared.step.Direction.TheVariants.{Up, Down}
 use Rattle.grid.specs.declared.step.Step.{Step}
 use Rattle.grid.specs.Grids.{InGrid}
 use Rattle.grid.proofs.Checked.{inside_accepted}
-use Rattle.numbering.specs.Calls.{KeyOf, KeyAnswer, beside, no_axis, neighbour_refusal, NeighbourAnswer}
+use Rattle.numbering.specs.Calls.{KeyOf, KeyAnswer, beside, no_axis, NeighbourAnswer}
 use Rattle.numbering.specs.Faces.{Moves, Leads}
 use Rattle.numbering.specs.Meaning.{Meaning, OneKey, side, size}
 

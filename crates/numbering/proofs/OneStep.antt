@@ -1,10 +1,9 @@
 -- No two steps lead from one cell to the same other.
-use Rattle.std.proofs.Common.{◌≡◌, ℕ, ◌-◌, ◌<◌, ◌≤◌, ◌≢◌, List, get_or, refl, subst, ap₂, ⊎_elim, arith}
+use Rattle.std.proofs.Common.{◌≡◌, ℕ, ◌-◌, ◌≢◌, get_or, refl, subst, ap₂, ⊎_elim, arith}
 use Rattle.std.proofs.lemmas.Bool.{cases_eq}
 use Rattle.grid.specs.declared.step.Direction.{Direction}
 use Rattle.grid.specs.declared.step.Direction.TheVariants.{Up, Down}
-use Rattle.grid.specs.declared.step.Step.{Step}
-use Rattle.numbering.specs.Faces.{Moves, Leads, OneStep}
+use Rattle.numbering.specs.Faces.{Moves, OneStep}
 
 apart : (d : Direction) (x y : ℕ) → Moves d x y → x ≢ y
 apart Up x y m e = omega arith

@@ -1,5 +1,5 @@
 -- Every pile of turnings keeps the laws, and a pile upside down undoes a pile.
-use Rattle.std.proofs.Common.{◌≡◌, ℕ, ◌+◌, ◌-◌, ◌<◌, List, [], ◌∷◌, ◌++◌, reverse, sym, refl, ap, ◌∙◌, subst, ap₂, arith}
+use Rattle.std.proofs.Common.{◌≡◌, ℕ, ◌-◌, ◌<◌, List, [], ◌∷◌, ◌++◌, reverse, sym, refl, ap, ◌∙◌, subst, ap₂, arith}
 use Rattle.std.proofs.lemmas.List.{reverse-append}
 use Rattle.grid.specs.Grids.{grid_side, grid_size}
 use Rattle.numbering.specs.Faces.{FaceToFace}
@@ -9,7 +9,7 @@ use Rattle.numbering.specs.Turnings.{mirror_cell, exchange_cell}
 use Rattle.numbering.specs.Exchanges.{exchange_turns, exchange_step, exchange_carries}
 use Rattle.numbering.specs.Mirrors.{mirror_turns, mirror_step, mirror_carries}
 use Rattle.numbering.specs.Reversals.{reversed_onekey, reversed_nesting, reversed_joined}
-use Rattle.numbering.specs.Turned.{Turns, turned_onekey, turned_nesting, turned_joined}
+use Rattle.numbering.specs.Turned.{turned_onekey, turned_nesting, turned_joined}
 
 turn_lawful : (t : Turning) (m : Meaning) → Lawful m → Lawful (turn t m)
 turn_lawful Reverse m law = record { limits = law.limits; one_key = reversed_onekey m law.one_key; nesting = reversed_nesting m law.nesting }

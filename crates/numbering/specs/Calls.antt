@@ -6,7 +6,7 @@
 -- neighbour_refusal, NeighbourAnswer — the key of the cell beside a key's
 -- axis_refusal, axes_refusal      — the axes of a turning
 -- Undo                            — cell to key and key to cell undo each other
-use Rattle.std.specs.Prelude.{◌≡◌, ℕ, ◌+◌, ◌-◌, ◌<◌, Bool, cond, ◌||◌, List, length, IfOk, Some, None, Ok, Err, Option, Result, ◌==◌, nat_lt, slice_index}
+use Rattle.std.specs.Prelude.{◌≡◌, ℕ, ◌+◌, ◌-◌, ◌<◌, Bool, cond, ◌||◌, List, length, IfOk, Some, None, Ok, Option, Result, ◌==◌, nat_lt, slice_index}
 use Rattle.grid.specs.declared.refusal.Refusal.{Refusal}
 use Rattle.grid.specs.declared.refusal.Refusal.TheVariants.{Key, CellLength, LastKey, NoAxis, NoNeighbour}
 use Rattle.grid.specs.declared.step.Direction.{Direction}

@@ -1,15 +1,14 @@
 -- The key of a cell: when it is refused, and what the laws give of it.
-use Rattle.std.specs.Prelude.{◌≡◌, ℕ, ◌+◌, ◌-◌, ◌<◌, ◌≤◌, Bool, true, false, cond, List, length, take, Some, None, Ok, Err, Option, Result, ◌==◌, nat_lt, refl}
-use Rattle.std.proofs.Common.{sym, ap, ◌∙◌, subst, ⊎_elim, arith, length-take}
-use Rattle.std.proofs.lemmas.Bool.{cases_Bool, cond-true, cond-false, eqb-true, eq-eqb, lt-leb, leb-false, ltb-true, lt-ltb}
+use Rattle.std.specs.Prelude.{◌≡◌, ℕ, ◌+◌, ◌-◌, ◌<◌, ◌≤◌, cond, List, length, take, Some, None, Ok, Err, Result, ◌==◌, nat_lt, refl}
+use Rattle.std.proofs.Common.{sym, ap, ◌∙◌, subst, arith, length-take}
+use Rattle.std.proofs.lemmas.Bool.{cond-true, eq-eqb, lt-ltb}
 use Rattle.std.proofs.lemmas.Bool.Decides.{nat_tests}
 use Rattle.grid.specs.declared.refusal.Refusal.{Refusal}
-use Rattle.grid.specs.declared.refusal.Refusal.TheVariants.{Key, CellLength, Coordinate}
-use Rattle.grid.specs.Answers.{refusal, unless, answer}
-use Rattle.grid.specs.Grids.{InGrid}
+use Rattle.grid.specs.declared.refusal.Refusal.TheVariants.{Key}
+use Rattle.grid.specs.Answers.{answer}
 use Rattle.grid.proofs.Checked.{some_none, inside_accepted}
 use Rattle.numbering.specs.Calls.{cell_refusal, CellAnswer, key_in_grid, key_refusal, step_refusal, KeyOf, KeyAnswer, Undo}
-use Rattle.numbering.specs.Meaning.{Meaning, OneKey, side, size}
+use Rattle.numbering.specs.Meaning.{Meaning, OneKey, size}
 
 -- a call for the key of a cell that is not refused
 pub key_found : (m : Meaning) (v : List ℕ) (r : Result ℕ Refusal) → key_refusal m v ≡ None → KeyAnswer m v r → (c : ℕ) × (r ≡ Ok c) × KeyOf m v c

@@ -87,7 +87,7 @@ impl<N: Numbering> Exchange<N> {
 impl<N: Numbering> Numbering for Exchange<N> {
     ghost meaning = { λ x. exchanged x.first x.second (N.Numbering.meaning x.inner) };
 
-    ghost limits = { first_of (Prim.search rules, Prim.grind (arith, Self.row.coded.inj)) };
+    ghost limits = { λ x. N.Numbering.limits x.inner };
 
     ghost onekey = { λ x.
         let m = N.Numbering.meaning x.inner in

@@ -57,7 +57,7 @@ impl<N: Numbering> Mirror<N> {
 impl<N: Numbering> Numbering for Mirror<N> {
     ghost meaning = { λ x. mirrored x.axis (N.Numbering.meaning x.inner) };
 
-    ghost limits = { first_of (Prim.search rules, Prim.grind (arith, Self.row.coded.inj)) };
+    ghost limits = { λ x. N.Numbering.limits x.inner };
 
     ghost onekey = { λ x.
         let m = N.Numbering.meaning x.inner in

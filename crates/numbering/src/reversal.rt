@@ -32,7 +32,7 @@ impl<N: Numbering> Reversal<N> {
 impl<N: Numbering> Numbering for Reversal<N> {
     ghost meaning = { λ x. reversed (N.Numbering.meaning x.inner) };
 
-    ghost limits = { Prim.search rules };
+    ghost limits = { λ x. N.Numbering.limits x.inner };
 
     ghost onekey = { λ x. reversed_onekey (N.Numbering.meaning x.inner) (N.Numbering.onekey x.inner) };
 

@@ -2,4 +2,4 @@ use Rattle.grid.proofs.Made.{padded_is}
 use Rattle.grid.proofs.boxes.eight.Goals as goal
 
 pub returns : goal.returns
-returns c = padded_is c.args.corner.now c.copy-from-slice.new.self c.copy-from-slice.ensures.after
+returns c = padded_is c.args.corner.now c.copy_from_slice.new.self c.copy_from_slice.ensures.after

@@ -1,14 +1,14 @@
 use Rattle.std.proofs.Common.{ℕ, ◌+◌, ◌*◌, ◌<◌, ◌≢◌, length, ap₂, arith, get_or-set_other, get_or-set_same, below_more}
 use Rattle.machine.proofs.bits.append.Goals as goal
 
-pub overflow-mul-cell : goal.overflow-mul-cell
-overflow-mul-cell c =
+pub overflow_mul-cell : goal.overflow_mul-cell
+overflow_mul-cell c =
     let e = c.loop-i.invariant.1 c.loop-i.i (omega arith) in
     let s = c.requires.small c.loop-i.i c.loop-i-test.true in
     omega arith
 
-pub overflow-add-cell : goal.overflow-add-cell
-overflow-add-cell c =
+pub overflow_add-cell : goal.overflow_add-cell
+overflow_add-cell c =
     let e = c.loop-i.invariant.1 c.loop-i.i (omega arith) in
     let s = c.requires.small c.loop-i.i c.loop-i-test.true in
     let b = c.bit.ensures.small in

@@ -2,11 +2,11 @@ use Rattle.std.proofs.Common.{◌≡◌, ℕ, ◌+◌, ◌*◌, length, sym, ap,
 use Rattle.machine.specs.Points.{gathered, places, few_places, all_places}
 use Rattle.machine.proofs.bits.gather.Goals as goal
 
-pub overflow-mul-point : goal.overflow-mul-point
-overflow-mul-point c = let few = few_places c.args.place c.args.cell.now c.loop-x.invariant (omega arith) in omega arith
+pub overflow_mul-point : goal.overflow_mul-point
+overflow_mul-point c = let few = few_places c.args.place c.args.cell.now c.loop-x.invariant (omega arith) in omega arith
 
-pub overflow-add-point : goal.overflow-add-point
-overflow-add-point c =
+pub overflow_add-point : goal.overflow_add-point
+overflow_add-point c =
     let few = few_places c.args.place c.args.cell.now c.loop-x.invariant (omega arith) in
     let one = c.bit.ensures.small in
     omega arith

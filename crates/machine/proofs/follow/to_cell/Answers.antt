@@ -9,8 +9,8 @@ loop-left-init g c =
     going_first two_pos (g.met.M.Machine.begins c.args.m.now) c.requires.small (cc) (cc)
     (c.fill.ensures.after (λ y e. e) ∙ ap (λ (n : ℕ). replicate n 0) c.requires.long)
 
-pub digit-of-digit-requires : goal.digit-of-digit-requires
-digit-of-digit-requires g c =
+pub digit_of-digit-requires : goal.digit_of-digit-requires
+digit_of-digit-requires g c =
     let l = c.grid-grid.result.limits in
     record { axes = omega arith; bits = bits_left c.axes.ensures l.3 (omega arith) }
 
@@ -25,4 +25,4 @@ append-requires g c =
 pub loop-left-preserved : goal.loop-left-preserved
 loop-left-preserved g c =
     going_more two_pos (g.met.M.Machine.exact c.args.m.now) c.loop-left.invariant (omega arith) (c.axes.ensures ∙ c.grid-grid.ensures.axes)
-    c.digit-of-digit.ensures.is c.point.ensures c.next-state.ensures c.append.auto.cell c.append.ensures
+    c.digit_of-digit.ensures.is c.point.ensures c.next-state.ensures c.append.auto.cell c.append.ensures

@@ -12,8 +12,8 @@ gather-requires g c =
     let h = half_order c.grid-grid.result.limits in
     record { few = omega (arith, c.requires.long, (g.met.M.Machine.limits c.args.m.now).most_axes); place = omega arith }
 
-pub with-digit-key-requires : goal.with-digit-key-requires
-with-digit-key-requires g c =
+pub with_digit-key-requires : goal.with_digit-key-requires
+with_digit-key-requires g c =
     let fits = reading_fits two_pos c.loop-place.invariant (omega arith) (omega (arith, c.grid-grid.ensures.order))
     (c.axes.ensures ∙ c.grid-grid.ensures.axes) c.digit-digit.ensures.small in
     record { axes = omega (arith, c.grid-grid.result.limits); fits = below_60 (g.met.M.Machine.limits c.args.m.now).most_bits fits }
@@ -22,4 +22,4 @@ pub loop-place-preserved : goal.loop-place-preserved
 loop-place-preserved g c =
     reading_more two_pos (g.met.M.Machine.exact c.args.m.now) c.loop-place.invariant (omega arith) (omega (arith, c.grid-grid.ensures.order))
     (c.axes.ensures ∙ c.grid-grid.ensures.axes) c.requires.long c.gather.ensures.bits
-    c.digit-digit.ensures.small c.digit-digit.ensures.is c.next-state.ensures c.with-digit-key.ensures
+    c.digit-digit.ensures.small c.digit-digit.ensures.is c.next-state.ensures c.with_digit-key.ensures

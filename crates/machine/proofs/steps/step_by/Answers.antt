@@ -4,8 +4,8 @@ use Rattle.machine.specs.Machines.{keys}
 use Rattle.machine.proofs.Unbroken.{consecutive}
 use Rattle.machine.proofs.steps.step_by.Goals as goal
 
-pub step-between-requires : goal.step-between-requires
-step-between-requires g c =
+pub step_between-requires : goal.step_between-requires
+step_between-requires g c =
     let x = c.args.m.now in
     let met = g.met.M.Machine in
     let M = g.M.Machine.model x in
@@ -15,5 +15,5 @@ step-between-requires g c =
     let f : c.size-2.result ≡ keys M k = c.size-2.ensures.is ∙ same in
     let below : c.args.key + 1 < keys M k = omega (arith, c.if-key-size.false, c.if-key-size-2.false) in
     let w = consecutive M (met.exact x) (g.met.M.JoinedMachine.rules x) (met.limits x).most_axes k (g.M.Machine.begin x) (met.begins x)
-    c.args.key below c.to-cell.new.list c.to-cell-2.new.list c.to-cell.ensures c.to-cell-2.ensures in
+    c.args.key below c.to_cell.new.list c.to_cell-2.new.list c.to_cell.ensures c.to_cell-2.ensures in
     record { few = w.few; same = w.same; face = w.face }

@@ -8,4 +8,4 @@ returns g c =
     let m = g.N.Numbering.meaning x in
     let met = g.met.N.Numbering in
     let law : Lawful m = record { limits = met.limits x; one_key = met.onekey x; nesting = met.nesting x } in
-    record { answer = c.cell-of.ensures; lawful = piled_lawful m law; undone = undone m law }
+    record { answer = c.cell_of.ensures; lawful = piled_lawful m law; undone = undone m law }

@@ -1,10 +1,10 @@
-use Rattle.std.proofs.Common.{◌≡◌, ℕ, ◌^◌, ◌<◌, sym, subst, arith, pow_pos}
+use Rattle.std.proofs.Common.{ℕ, ◌<◌, sym, subst, arith, pow_pos}
 use Rattle.std.proofs.lemmas.Nat.{one_shl}
 use Rattle.grid.proofs.Limited.{half_order}
 use Rattle.grid.proofs.grid.Grid.side.Goals as goal
 
-pub overflow-shl-result : goal.overflow-shl-result
-overflow-shl-result c = let h = half_order c.args.self.limits in omega arith
+pub overflow_shl-result : goal.overflow_shl-result
+overflow_shl-result c = let h = half_order c.args.self.limits in omega arith
 
 pub returns : goal.returns
 returns c =

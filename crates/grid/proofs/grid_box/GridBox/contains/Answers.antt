@@ -1,4 +1,4 @@
-use Rattle.std.proofs.Common.{◌≡◌, false, eqb, length, sym, ap, ◌∙◌, arith}
+use Rattle.std.proofs.Common.{◌≡◌, false, eqb, length, sym, arith}
 use Rattle.std.proofs.lemmas.Bool.{lt-leb, le-leb, and_from, and_left, and_right}
 use Rattle.grid.specs.Boxes.{between}
 use Rattle.grid.proofs.AxisTests.{every_none, every_more, every_fails}

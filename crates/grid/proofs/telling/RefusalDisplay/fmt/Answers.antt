@@ -1,4 +1,4 @@
-use Rattle.std.proofs.Common.{◌≡◌, ℕ, List, ◌++◌, Some, ap, ◌∙◌, subst, ap₂}
+use Rattle.std.proofs.Common.{◌≡◌, ℕ, List, ◌++◌, Some, ap, subst, ap₂}
 use Rattle.std.specs.Fmt.{HasWritten}
 use Rattle.grid.specs.Sentences.{numbered, listed, sentence}
 use Rattle.grid.proofs.telling.RefusalDisplay.fmt.Goals as goal

@@ -11,6 +11,6 @@ returns g c =
     let m = g.N.Numbering.meaning x.inner in
     let i = x.first - 1 in
     let j = x.second - 1 in
-    turned_answer m (g.met.N.Numbering.onekey x.inner) (exchange_cell i j) (exchange_turns m i j) c.args.cell.now c.turn.new.cell c.key-of.result
-    (checked_inside _ _ m.axes m.order c.args.cell.now c.grid.ensures.axes c.grid.ensures.order c.in-ok-check.ensures)
-    (c.turn.ensures ∙ ap (exchange_cell i j) c.copy-from-slice.ensures.after) c.key-of.ensures
+    turned_answer m (g.met.N.Numbering.onekey x.inner) (exchange_cell i j) (exchange_turns m i j) c.args.cell.now c.turn.new.cell c.key_of.result
+    (checked_inside _ _ m.axes m.order c.args.cell.now c.grid.ensures.axes c.grid.ensures.order c.in_ok-check.ensures)
+    (c.turn.ensures ∙ ap (exchange_cell i j) c.copy_from_slice.ensures.after) c.key_of.ensures

@@ -11,7 +11,7 @@ returns g c =
     let m = g.N.Numbering.meaning x.inner in
     let i = x.first - 1 in
     let j = x.second - 1 in
-    let s = c.in-ok-step.step in
+    let s = c.in_ok-step.step in
     subst (λ (a : ℕ). StepAnswer (exchanged x.first x.second m) c.args.key (Ok (record { axis = a; direction = s.direction }))) (sym c.other.ensures)
     (turned_step m (g.met.N.Numbering.onekey x.inner) (exchange_cell i j) (exchange_turns m i j) (exchange_step m.axes i j) (exchange_carries m i j)
-    c.args.key s c.in-ok-step.ensures)
+    c.args.key s c.in_ok-step.ensures)
