@@ -1,5 +1,5 @@
 -- The rules put the last cell of each block beside the first of the next one.
-use Rattle.std.proofs.Common.{◌≡◌, ℕ, zero, suc, ◌+◌, ◌-◌, ◌*◌, ◌/◌, ◌%◌, ◌^◌, ◌<◌, T, ◌≢◌, ◌⊎◌, sym, refl, ap, ◌∙◌, ap₂, inl, inr, suc-mul, zero-mul, arith}
+use Rattle.std.proofs.Common.{◌≡◌, ℕ, zero, suc, ◌+◌, ◌-◌, ◌*◌, ◌^◌, ◌<◌, T, ◌⊎◌, sym, refl, ap, ◌∙◌, ap₂, inl, inr, suc-mul, zero-mul, arith}
 use native.Mathlib.Nat.{zero-div, zero-mod}
 use lib.Arith.{mul_pred}
 use Rattle.arithmetic.proofs.Powers.{power_pos, none_left, times, last_lt, last_split, block_size}

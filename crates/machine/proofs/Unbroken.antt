@@ -1,11 +1,10 @@
 -- A machine that keeps the rules gives an unbroken numbering, at every order and from every state.
-use Rattle.std.proofs.Common.{◌≡◌, ℕ, suc, ◌+◌, ◌-◌, ◌<◌, ◌≤◌, T, ◌≢◌, ◌⊎◌, List, length, get_or, sym, ap, ◌∙◌, subst, subst₂, inl, inr, add-one, arith}
+use Rattle.std.proofs.Common.{◌≡◌, ℕ, suc, ◌+◌, ◌-◌, ◌<◌, ◌≤◌, T, ◌⊎◌, List, length, get_or, sym, ap, ◌∙◌, subst, subst₂, inl, inr, add-one, arith}
 use Rattle.grid.specs.declared.step.Direction.{Direction}
 use Rattle.grid.specs.declared.step.Direction.TheVariants.{Up, Down}
-use Rattle.grid.specs.declared.step.Step.{Step}
-use Rattle.numbering.specs.Faces.{Moves, Leads, ShareFace, FaceToFace}
+use Rattle.numbering.specs.Faces.{Moves, Leads, ShareFace}
 use Rattle.machine.specs.Machines.{Machine, keys, coord, Exact}
-use Rattle.machine.specs.Means.{cell_from, means, AlwaysUnbroken}
+use Rattle.machine.specs.Means.{cell_from, AlwaysUnbroken}
 use Rattle.machine.specs.Rules.{Rules}
 use Rattle.machine.specs.Points.{two_pos}
 use Rattle.machine.proofs.Crossing.{across}

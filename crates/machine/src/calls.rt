@@ -7,7 +7,7 @@ use grid::Refusal;
 
 // Fills the list with the cell of a key.
 pub fn cell_by<M: Machine>(m: &M, key: u64, cell: &mut [u32]) -> Result<(), Refusal>
-    ensures { CellAnswer (means (model m.now) (depth m.now) (begin m.now)) key cell.old result cell.new }
+    ensures { CellAnswer (means (M.Machine.model m.now) (M.Machine.depth m.now) (M.Machine.begin m.now)) key cell.old result cell.new }
 {
     let grid = m.grid();
     if key >= grid.size() {
@@ -22,7 +22,7 @@ pub fn cell_by<M: Machine>(m: &M, key: u64, cell: &mut [u32]) -> Result<(), Refu
 
 // The key of a cell.
 pub fn key_by<M: Machine>(m: &M, cell: &[u32]) -> Result<u64, Refusal>
-    ensures { KeyAnswer (means (model m.now) (depth m.now) (begin m.now)) cell.now result }
+    ensures { KeyAnswer (means (M.Machine.model m.now) (M.Machine.depth m.now) (M.Machine.begin m.now)) cell.now result }
 {
     m.grid().check(cell)?;
     Ok(to_key(m, cell))

@@ -7,9 +7,9 @@ use crate::machine::Machine;
 
 // Fills the list with the cell of a key: each digit is one more bit of every coordinate.
 pub(crate) fn to_cell<M: Machine>(m: &M, key: u64, list: &mut [u32])
-    requires small { key < grid_size (model m.now).n (depth m.now) }
-    requires long { length list.old ≡ (model m.now).n }
-    ensures { list.new ≡ cell_from (model m.now) (depth m.now) (begin m.now) key }
+    requires small { key < grid_size (M.Machine.model m.now).n (M.Machine.depth m.now) }
+    requires long { length list.old ≡ (M.Machine.model m.now).n }
+    ensures { list.new ≡ cell_from (M.Machine.model m.now) (M.Machine.depth m.now) (M.Machine.begin m.now) key }
 {
     let grid = m.grid();
     list.fill(0);
@@ -23,9 +23,9 @@ pub(crate) fn to_cell<M: Machine>(m: &M, key: u64, list: &mut [u32])
 
 // The key of a cell: one bit of every coordinate is an n-point, and so a digit.
 pub(crate) fn to_key<M: Machine>(m: &M, list: &[u32]) -> u64
-    requires { InGrid (model m.now).n (depth m.now) list.now }
-    ensures small { result < grid_size (model m.now).n (depth m.now) }
-    ensures is { cell_from (model m.now) (depth m.now) (begin m.now) result ≡ list.now }
+    requires { InGrid (M.Machine.model m.now).n (M.Machine.depth m.now) list.now }
+    ensures small { result < grid_size (M.Machine.model m.now).n (M.Machine.depth m.now) }
+    ensures is { cell_from (M.Machine.model m.now) (M.Machine.depth m.now) (M.Machine.begin m.now) result ≡ list.now }
 {
     let grid = m.grid();
     let mut key = 0;
