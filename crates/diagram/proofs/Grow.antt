@@ -1,10 +1,10 @@
 -- The X2 sequence grows by one axis: what the builder's steps do to a list.
-use Rattle.std.proofs.Common.{◌≡◌, ℕ, zero, suc, pred, ◌+◌, ◌-◌, ◌*◌, ◌/◌, ◌^◌, ◌<◌, ◌≤◌, Bool, true, false, cond, T, eqb, ltb, List, [], ◌∷◌, ◌++◌, map, reverse, length, get_or, take, drop, set, sym, refl, ap, ◌∙◌, subst, ap₂, add-one, arith, eqb→eq, ltb→lt, length-append, length-take-le, take_all, drop-drop, take_at, drop_at, pow_pos}
+use Rattle.std.proofs.Common.{◌≡◌, ℕ, zero, suc, ◌+◌, ◌-◌, ◌*◌, ◌/◌, ◌^◌, ◌<◌, ◌≤◌, Bool, true, false, cond, T, eqb, ltb, List, [], ◌∷◌, ◌++◌, map, reverse, length, get_or, take, drop, set, sym, refl, ap, ◌∙◌, ap₂, add-one, arith, eqb→eq, ltb→lt, length-append, length-take-le, take_all, drop-drop, take_at, drop_at, pow_pos}
 use native.Mathlib.Nat.{two-pow-succ, pow-le-pow_right}
 use Rattle.std.proofs.lemmas.List.{get_or-reverse, get_or-map}
 use lib.Bits.{bit_xor}
 use lib.ListN.{length-reverse, length-map, get_or-append}
-use lib.Seq.{paste, paste-suc, take-append-le, drop-append-add}
+use lib.Seq.{paste, paste-suc, drop-append-add}
 use Rattle.grid.proofs.Limited.{two_to_eight}
 use Rattle.diagram.specs.Computed.{both_left, both_right}
 use Rattle.diagram.specs.Rows.{x2, repeat_last, lead_last, doubled, invert_upper}

@@ -1,6 +1,7 @@
 pub mod Diagrams
 pub mod Hindex
 pub mod Meetings
+pub mod Numbered
 pub mod Pairs
 pub mod Reckons
 pub mod Rows

@@ -12,22 +12,22 @@ bounds-rows-digit c = omega (arith, row_within c.args.axes c.requires.least c.re
 pub bounds-rows-digit-2 : goal.bounds-rows-digit-2
 bounds-rows-digit-2 c = omega (arith, row_within c.args.axes c.requires.least c.requires.most c.args.rows.now c.requires.rows c.args.digit c.requires.small)
 
-pub first-axis-requires : goal.first-axis-requires
-first-axis-requires c =
+pub first_axis-requires : goal.first_axis-requires
+first_axis-requires c =
     record {
       least = c.requires.least;
       most = c.requires.most;
       small = bits_below c.args.axes c.requires.least c.requires.most c.args.rows.now c.requires.rows c.args.digit c.requires.small;
     }
 
-pub turned-by-requires : goal.turned-by-requires
-turned-by-requires c =
+pub turned_by-requires : goal.turned_by-requires
+turned_by-requires c =
     record {
       least = c.requires.least;
       most = c.requires.most;
       state = c.requires.state;
       start = start_below c.args.axes c.requires.least c.requires.most c.args.rows.now c.requires.rows c.args.digit c.requires.small;
-      shift = c.first-axis.ensures.within;
+      shift = c.first_axis.ensures.within;
     }
 
 pub returns : goal.returns
@@ -35,6 +35,6 @@ returns c =
     let n = c.args.axes in
     let s = c.args.state in
     let d = c.args.digit in
-    pair_is c.turned-by.result (next_of n s d)
-    (c.turned-by.ensures.start ∙ ap (λ (r : List ℕ). seen_from n s (get_or r (2 * d) 0)) c.requires.rows)
-    (c.turned-by.ensures.shift ∙ ap (λ (x : ℕ). (s.shift + x) % n) (c.first-axis.ensures.is ∙ ap (λ (r : List ℕ). top_axis n (bit_xor (get_or r (2 * d) 0) (get_or r (2 * d + 1) 0))) c.requires.rows))
+    pair_is c.turned_by.result (next_of n s d)
+    (c.turned_by.ensures.start ∙ ap (λ (r : List ℕ). seen_from n s (get_or r (2 * d) 0)) c.requires.rows)
+    (c.turned_by.ensures.shift ∙ ap (λ (x : ℕ). (s.shift + x) % n) (c.first_axis.ensures.is ∙ ap (λ (r : List ℕ). top_axis n (bit_xor (get_or r (2 * d) 0) (get_or r (2 * d + 1) 0))) c.requires.rows))

@@ -6,7 +6,7 @@ use Rattle.diagram.specs.States.{most_states, states}
 use Rattle.diagram.proofs.Even.{Even}
 use Rattle.diagram.proofs.Taking.{most_some, most_few, count_few, even_now, taking_first, taking_on, taken_lt, counted, filled, all_noted, Turn, turn_done, even_as, turn_known, turn_new, turn_room}
 use Rattle.diagram.proofs.numbered.number_states.Goals as goal
-use Rattle.diagram.proofs.numbered.number_states.Goals.{then-not-is-number, else-not-is-number}
+use Rattle.diagram.proofs.numbered.number_states.Goals.{then-not-is_number, else-not-is_number}
 
 pub bounds-states-0 : goal.bounds-states-0
 bounds-states-0 c = omega (arith, most_some c.args.axes c.requires.least c.requires.most, c.requires.room)
@@ -25,8 +25,8 @@ moved {n} {rs0} {rs} {rs'} {notes} {notes'} {count} {count'} {s} {p} {whole} er 
 in_row : {p w m : ℕ} → p < w → w ≡ m → p < m
 in_row {p} l e = subst (λ (x : ℕ). p < x) e l
 
-pub digit-in-requires : goal.digit-in-requires
-digit-in-requires c =
+pub digit_in-requires : goal.digit_in-requires
+digit_in-requires c =
     record {
       least = c.requires.least;
       most = c.requires.most;
@@ -34,14 +34,14 @@ digit-in-requires c =
       small = in_row c.loop-point-test.true c.digits-point-end.ensures.is;
     }
 
-pub next-by-next-requires : goal.next-by-next-requires
-next-by-next-requires c =
+pub next_by-next-requires : goal.next_by-next-requires
+next_by-next-requires c =
     record {
       least = c.requires.least;
       most = c.requires.most;
       rows = c.requires.rows;
       state = (even_now c.args.axes c.requires.least c.requires.most _ c.loop-taken.states c.loop-taken.notes c.loop-taken.count c.loop-taken.taken c.loop-taken.invariant c.loop-taken-test.true).is_state;
-      small = c.digit-in.ensures.small;
+      small = c.digit_in.ensures.small;
     }
 
 pub slot-place-requires : goal.slot-place-requires
@@ -51,32 +51,32 @@ slot-place-requires c =
       most = c.requires.most;
       state = (even_as c.args.axes c.requires.least c.requires.most (get_or c.loop-taken.states c.loop-taken.taken origin)
           (even_now c.args.axes c.requires.least c.requires.most _ c.loop-taken.states c.loop-taken.notes c.loop-taken.count c.loop-taken.taken c.loop-taken.invariant c.loop-taken-test.true)
-          c.digit-in.result c.digit-in.ensures.small c.next-by-next.result c.next-by-next.ensures).is_state;
+          c.digit_in.result c.digit_in.ensures.small c.next_by-next.result c.next_by-next.ensures).is_state;
     }
 
 pub bounds-states-count : goal.bounds-states-count
 bounds-states-count c =
     let e = even_now c.args.axes c.requires.least c.requires.most _ c.loop-taken.states c.loop-taken.notes c.loop-taken.count c.loop-taken.taken c.loop-taken.invariant c.loop-taken-test.true in
     turn_room c.args.axes c.requires.least c.requires.most _ c.loop-point.states c.loop-point.notes c.loop-point.count _ c.loop-point.point _ c.loop-point.invariant e
-    (in_row c.loop-point-test.true c.digits-point-end.ensures.is) c.digit-in.result c.digit-in.ensures.small c.digit-in.ensures.is c.next-by-next.result c.next-by-next.ensures
-    c.slot-place.result c.slot-place.ensures.is c.is-number.result c.is-number.ensures c.if-not-is-number.true
+    (in_row c.loop-point-test.true c.digits-point-end.ensures.is) c.digit_in.result c.digit_in.ensures.small c.digit_in.ensures.is c.next_by-next.result c.next_by-next.ensures
+    c.slot-place.result c.slot-place.ensures.is c.is_number.result c.is_number.ensures c.if-not-is_number.true
 
-pub overflow-cast-notes-then-not-is-number : goal.overflow-cast-notes-then-not-is-number
-overflow-cast-notes-then-not-is-number c =
+pub overflow_cast-notes-then-not-is_number : goal.overflow_cast-notes-then-not-is_number
+overflow_cast-notes-then-not-is_number c =
     let m = count_few c.args.axes c.requires.least c.requires.most _ c.loop-point.states c.loop-point.notes c.loop-point.count c.loop-point.invariant.going in
     omega (arith, m, most_few c.args.axes c.requires.least c.requires.most)
 
 pub loop-point-preserved : goal.loop-point-preserved
 loop-point-preserved c =
-    elim c.if-not-is-number.branch [
-      | then-not-is-number w ↦
+    elim c.if-not-is_number.branch [
+      | then-not-is_number w ↦
           moved w.states-is w.notes-is w.count-is (turn_new n c.requires.least c.requires.most _ c.loop-point.states c.loop-point.notes c.loop-point.count _ c.loop-point.point _ c.loop-point.invariant e
-          (in_row c.loop-point-test.true c.digits-point-end.ensures.is) c.digit-in.result c.digit-in.ensures.small c.digit-in.ensures.is c.next-by-next.result c.next-by-next.ensures
-          c.slot-place.result c.slot-place.ensures.is c.is-number.result c.is-number.ensures w.if-not-is-number.true)
-      | else-not-is-number w ↦
+          (in_row c.loop-point-test.true c.digits-point-end.ensures.is) c.digit_in.result c.digit_in.ensures.small c.digit_in.ensures.is c.next_by-next.result c.next_by-next.ensures
+          c.slot-place.result c.slot-place.ensures.is c.is_number.result c.is_number.ensures w.if-not-is_number.true)
+      | else-not-is_number w ↦
           moved w.states-is w.notes-is w.count-is (turn_known n c.requires.least c.requires.most _ c.loop-point.states c.loop-point.notes c.loop-point.count _ c.loop-point.point _ c.loop-point.invariant e
-          (in_row c.loop-point-test.true c.digits-point-end.ensures.is) c.digit-in.result c.digit-in.ensures.small c.digit-in.ensures.is c.next-by-next.result c.next-by-next.ensures
-          c.slot-place.result c.slot-place.ensures.is c.is-number.result c.is-number.ensures w.if-not-is-number.false)
+          (in_row c.loop-point-test.true c.digits-point-end.ensures.is) c.digit_in.result c.digit_in.ensures.small c.digit_in.ensures.is c.next_by-next.result c.next_by-next.ensures
+          c.slot-place.result c.slot-place.ensures.is c.is_number.result c.is_number.ensures w.if-not-is_number.false)
     ]
   where
     n : ℕ

@@ -7,8 +7,8 @@ rotate-requires c =
     let t = digit_turns c.args.axes c.requires.least c.requires.most c.args.state c.requires.state c.args.point c.requires.small in
     record { axes = c.requires.most; by = t.by; small = t.small }
 
-pub overflow-cast-result : goal.overflow-cast-result
-overflow-cast-result c =
+pub overflow_cast-result : goal.overflow_cast-result
+overflow_cast-result c =
     let t = (digit_is c.args.axes c.requires.least c.requires.most c.args.state c.requires.state c.args.point c.rotate.result c.ungray.result c.requires.small c.rotate.ensures c.ungray.ensures).2 in
     omega arith
 

@@ -1,4 +1,4 @@
-use Rattle.std.proofs.Common.{◌≡◌, ℕ, ◌+◌, ◌-◌, ◌/◌, ◌≤◌, List, map, reverse, length, get_or, take, set, sym, ap, ◌∙◌, subst, arith, length-set}
+use Rattle.std.proofs.Common.{◌≡◌, ℕ, ◌+◌, ◌-◌, ◌/◌, List, map, reverse, get_or, take, set, ap, ◌∙◌, arith, length-set}
 use lib.Bits.{bit_xor}
 use lib.Seq.{paste, paste-zero}
 use Rattle.diagram.proofs.Grow.{turn, sum_fits, whole, answer_is, room_twice}
@@ -11,8 +11,8 @@ stored out len = set out (len - 1) (get_or out (len - 2) 0 + len / 2)
 image : List ℕ → ℕ → List ℕ
 image d len = map (bit_xor (len / 2)) (reverse (take len d))
 
-pub overflow-add-list : goal.overflow-add-list
-overflow-add-list t c =
+pub overflow_add-list : goal.overflow_add-list
+overflow_add-list t c =
     record {
       fits = sum_fits c.args.axes c.extend-half.result c.args.list.now c.extend-half.new.list
           (omega arith) c.requires.most c.extend-half.ensures.long c.extend-half.ensures.list c.requires.room;

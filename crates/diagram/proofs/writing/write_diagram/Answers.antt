@@ -12,11 +12,11 @@ eight_or_fewer n e = grind (arith, nat_tests)
 
 pub returns : goal.returns
 returns c =
-    let e = c.in-ok-need.ensures.refused in
+    let e = c.in_ok-need.ensures.refused in
     record {
       refused = search rules;
-      count = c.write-both.ensures.count;
-      states = c.write-both.ensures.states;
-      entries = c.write-both.ensures.entries;
+      count = c.write_both.ensures.count;
+      states = c.write_both.ensures.states;
+      entries = c.write_both.ensures.entries;
       numbered = one_numbering c.args.axes (two_or_more c.args.axes e) (eight_or_fewer c.args.axes e);
     }

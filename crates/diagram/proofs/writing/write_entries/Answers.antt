@@ -18,8 +18,8 @@ loop-digit-init c =
     subst (Front (entries c.args.axes) c.loop-number.entries c.loop-number.entries) (sym (add-zero (c.loop-number.number * c.digits-width.result)))
     (front_same c.loop-number.entries (c.loop-number.number * c.digits-width.result) c.loop-number.invariant)
 
-pub next-by-next-requires : goal.next-by-next-requires
-next-by-next-requires c =
+pub next_by-next-requires : goal.next_by-next-requires
+next_by-next-requires c =
     record {
       least = c.requires.least;
       most = c.requires.most;
@@ -28,8 +28,8 @@ next-by-next-requires c =
       small = in_row c.loop-digit-test.true c.digits-width.ensures.is;
     }
 
-pub point-in-requires : goal.point-in-requires
-point-in-requires c =
+pub point_in-requires : goal.point_in-requires
+point_in-requires c =
     record {
       least = c.requires.least;
       most = c.requires.most;
@@ -44,16 +44,16 @@ slot-requires c =
       most = c.requires.most;
       state = (even_as c.args.axes c.requires.least c.requires.most (get_or c.args.states.now c.loop-number.number origin)
           (even_of c.args.axes c.requires.least c.requires.most c.args.states.now c.requires.states c.loop-number.number c.loop-number-test.true)
-          c.loop-digit.digit (in_row c.loop-digit-test.true c.digits-width.ensures.is) c.next-by-next.result c.next-by-next.ensures).is_state;
+          c.loop-digit.digit (in_row c.loop-digit-test.true c.digits-width.ensures.is) c.next_by-next.result c.next_by-next.ensures).is_state;
     }
 
-pub overflow-add-number : goal.overflow-add-number
-overflow-add-number c =
+pub overflow_add-number : goal.overflow_add-number
+overflow_add-number c =
     let p = place_lt c.args.axes c.requires.least c.requires.most c.args.states.now c.requires.states c.digits-width.result c.digits-width.ensures.is c.loop-number.number c.loop-digit.digit c.loop-number-test.true c.loop-digit-test.true in
     omega (arith, p.0, p.1)
 
-pub offset-bounds-entries-number : goal.offset-bounds-entries-number
-offset-bounds-entries-number c =
+pub offset_bounds-entries-number : goal.offset_bounds-entries-number
+offset_bounds-entries-number c =
     let p = place_lt c.args.axes c.requires.least c.requires.most c.args.states.now c.requires.states c.digits-width.result c.digits-width.ensures.is c.loop-number.number c.loop-digit.digit c.loop-number-test.true c.loop-digit-test.true in
     omega (arith, p.0, p.1)
 
@@ -66,7 +66,7 @@ pub loop-digit-preserved : goal.loop-digit-preserved
 loop-digit-preserved c =
     fill_digit c.args.axes c.requires.least c.requires.most c.args.states.now c.requires.states c.digits-width.result c.digits-width.ensures.is
     c.args.notes.now c.requires.noted c.loop-number.number c.loop-digit.digit c.loop-number-test.true c.loop-digit-test.true
-    c.point-in.result c.point-in.ensures.is c.next-by-next.result c.next-by-next.ensures c.slot.result c.slot.ensures.is
+    c.point_in.result c.point_in.ensures.is c.next_by-next.result c.next_by-next.ensures c.slot.result c.slot.ensures.is
     c.loop-number.entries c.loop-digit.entries (omega (arith, c.requires.room, c.loop-digit.auto.entries, c.loop-number.auto.entries)) c.loop-digit.invariant
 
 pub loop-number-preserved : goal.loop-number-preserved
