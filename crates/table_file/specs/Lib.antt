@@ -1,4 +1,3 @@
 pub mod Faults
 pub mod Format
 pub mod Loading
-pub mod Written

@@ -12,10 +12,10 @@ made_if (Err e) h = tt
 
 pub returns : goal.returns
 returns c =
-    let e : refusal c.keep-all.result ≡ check_refusal c.args.axes c.args.states c.args.entries.now = search rules in
+    let e : refusal c.keep_all.result ≡ check_refusal c.args.axes c.args.states c.args.entries.now = search rules in
     record {
       refused = e;
-      table = made_if c.keep-all.result (λ q. sound _ _ _ (sym e ∙ q));
+      table = made_if c.keep_all.result (λ q. sound _ _ _ (sym e ∙ q));
       accepts = λ is. e ∙ complete _ _ _ is;
-      numbers = made_if c.keep-all.result (λ q. numbers _ _ _ (sound _ _ _ (sym e ∙ q)));
+      numbers = made_if c.keep_all.result (λ q. numbers _ _ _ (sound _ _ _ (sym e ∙ q)));
     }

@@ -15,13 +15,13 @@ front n m w l rest em ew e =
 
 pub returns : goal.returns
 returns c =
-    let count = c.in-ok-count.ensures in
-    let list = c.write-diagram.new.entries in
-    let vec = c.in-ok-entries.entries in
-    let whole : (with_items vec list).items ≡ list = with_items_is vec list (c.write-diagram.auto.entries ∙ c.as-mut-slice-2.ensures.len) in
+    let count = c.in_ok-count.ensures in
+    let list = c.write_diagram.new.entries in
+    let vec = c.in_ok-entries.entries in
+    let whole : (with_items vec list).items ≡ list = with_items_is vec list (c.write_diagram.auto.entries ∙ c.as_mut_slice-2.ensures.len) in
     record {
-      refused = inl c.in-ok-room.ensures.refused;
+      refused = inl c.in_ok-room.ensures.refused;
       states = count.count;
-      entries = c.truncate.ensures.items ∙ ap (take (c.in-ok-count.count * c.width.result)) whole
-          ∙ front c.args.axes c.in-ok-count.count c.width.result list _ count.count c.width.ensures.is count.entries;
+      entries = c.truncate.ensures.items ∙ ap (take (c.in_ok-count.count * c.width.result)) whole
+          ∙ front c.args.axes c.in_ok-count.count c.width.result list _ count.count c.width.ensures.is count.entries;
     }

@@ -7,9 +7,9 @@ use Rattle.table.proofs.table_numbering.TableNumbering.entry.Goals as goal
 pub index-requires : goal.index-requires
 index-requires c =
     let x = c.args.self.now in
-    place_inside (vec_items x.entries) (held x).long x.entries.ok.0 c.axes.ensures c.place-of.ensures c.requires.state c.requires.digit
+    place_inside (vec_items x.entries) (held x).long x.entries.ok.0 c.axes.ensures c.place_of.ensures c.requires.state c.requires.digit
 
 pub returns : goal.returns
 returns c =
     let x = c.args.self.now in
-    place_read (vec_items x.entries) (held x).long x.entries.ok.0 c.axes.ensures c.place-of.ensures c.requires.state c.requires.digit _ _ c.index.ensures
+    place_read (vec_items x.entries) (held x).long x.entries.ok.0 c.axes.ensures c.place_of.ensures c.requires.state c.requires.digit _ _ c.index.ensures

@@ -3,7 +3,7 @@ use Rattle.table.proofs.table_numbering.TableNumbering.install_diagram.Goals as 
 
 pub returns : goal.returns
 returns c =
-    let put = c.put-diagram.ensures in
+    let put = c.put_diagram.ensures in
     record {
       refused = put.refused;
       axes = put.axes;

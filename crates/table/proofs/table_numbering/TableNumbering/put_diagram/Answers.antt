@@ -26,12 +26,12 @@ meets n k m t r ok em et met =
 
 pub returns : goal.returns
 returns c =
-    let d = c.in-ok-diagram.ensures in
+    let d = c.in_ok-diagram.ensures in
     let i = c.install.ensures in
-    let ok = c.in-ok-new.ensures.refused in
-    let whole = c.as-slice.ensures.value ∙ d.entries in
+    let ok = c.in_ok-new.ensures.refused in
+    let whole = c.as_slice.ensures.value ∙ d.entries in
     record {
-      refused = meets c.args.axes c.args.order c.in-ok-diagram.diagram.states c.as-slice.result.now _ ok d.states whole i.refused;
+      refused = meets c.args.axes c.args.order c.in_ok-diagram.diagram.states c.as_slice.result.now _ ok d.states whole i.refused;
       axes = i.axes;
       order = i.order;
       states = i.states ∙ ap (λ (x : ℕ). unless (refusal c.install.result) x c.args.self.now.states) d.states;
