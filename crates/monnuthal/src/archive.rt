@@ -21,7 +21,7 @@ pub(crate) fn file<N: Numbering>(
         let key = numbering.key_of(&sounding.cell)?;
         table.push(Row { key, number })?;
     }
-    table.sort();
+    table.sort_unstable();
     Ok(table)
 }
 
