@@ -22,6 +22,7 @@ returns-then-step-self g c =
     let i = x.axis - 1 in
     let s = c.in_ok-step.step in
     let first = c.in_ok-step.ensures.step.first in
-    subst (λ (t : Step). StepAnswer (mirrored x.axis m) c.args.key (Ok t)) (as_it_was i s (λ e. c.if-step-self.true (omega (arith, first, x.counted, e))))
+    let apart : s.axis ≢ x.axis = c.if-step-self.true in
+    subst (λ (t : Step). StepAnswer (mirrored x.axis m) c.args.key (Ok t)) (as_it_was i s (λ e. apart (omega (arith, first, x.counted, e))))
     (turned_step m (g.met.N.Numbering.onekey x.inner) (mirror_cell (side m) i) (mirror_turns m i) (mirror_step i) (mirror_carries m i)
     c.args.key s c.in_ok-step.ensures)
