@@ -4,7 +4,7 @@ ghost use Rattle.diagram.specs.Diagrams.{slot as slot_of};
 ghost use Rattle.diagram.specs.Pairs.{next_of, origin, pair_machine};
 ghost use Rattle.diagram.specs.Rows.{top_axis, x2};
 ghost use Rattle.diagram.specs.States.{most_states, same_pair};
-ghost use Rattle.diagram.specs.States.{states as numbered-states};
+ghost use Rattle.diagram.specs.States.{states as numbered_states};
 
 use crate::pair::Pair;
 use crate::seen::{digit_in, turned_by};
@@ -73,11 +73,11 @@ pub(crate) fn number_states(axes: u32, rows: &[u8], states: &mut [Pair], notes: 
     requires rows { rows.now ≡ x2 axes }
     requires room { most_states axes ≤ length states.old }
     requires notes { length notes.old ≡ 2048 }
-    ensures count { result ≡ length (numbered-states axes) }
+    ensures count { result ≡ length (numbered_states axes) }
     ensures few { result ≤ 1024 }
     ensures within { result ≤ length states.old }
-    ensures listed { states.new ≡ numbered-states axes ++ drop result states.old }
-    ensures noted { Noted axes (numbered-states axes) notes.new }
+    ensures listed { states.new ≡ numbered_states axes ++ drop result states.old }
+    ensures noted { Noted axes (numbered_states axes) notes.new }
 {
     states[0] = Pair { start: 0, shift: 0 };
     notes[0] = 0;

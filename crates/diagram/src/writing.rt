@@ -1,11 +1,11 @@
 ghost use Rattle.std.specs.Prelude.{◌≡◌, ◌*◌, ◌^◌, ◌≤◌, ◌++◌, length, drop, IfOk, OnOk};
 ghost use Rattle.grid.specs.Answers.{refusal, unless};
 ghost use Rattle.diagram.specs.Diagrams.{diagram_refusal, Noted};
-ghost use Rattle.diagram.specs.Diagrams.{entries as diagram-entries};
+ghost use Rattle.diagram.specs.Diagrams.{entries as diagram_entries};
 ghost use Rattle.diagram.specs.Meetings.{OneNumbering};
 ghost use Rattle.diagram.specs.Rows.{x2};
 ghost use Rattle.diagram.specs.States.{most_states};
-ghost use Rattle.diagram.specs.States.{states as numbered-states};
+ghost use Rattle.diagram.specs.States.{states as numbered_states};
 
 use crate::entry::Entry;
 use crate::numbered::{digits, next_by, number_states, slot};
@@ -18,9 +18,9 @@ use grid::Refusal;
 // Writes the diagram of that many axes at the front of two lists, the states by number and their entries by state and digit, and answers how many states there are.
 pub fn write_diagram(axes: u32, states: &mut [Pair], entries: &mut [Entry]) -> Result<u32, Refusal>
     ensures refused { refusal result ≡ diagram_refusal axes (length states.old) (length entries.old) }
-    ensures count { IfOk result (λ m. m ≡ length (numbered-states axes)) }
-    ensures states { states.new ≡ unless (refusal result) (numbered-states axes ++ drop (length (numbered-states axes)) states.old) states.old }
-    ensures entries { entries.new ≡ unless (refusal result) (diagram-entries axes ++ drop (length (numbered-states axes) * 2 ^ axes) entries.old) entries.old }
+    ensures count { IfOk result (λ m. m ≡ length (numbered_states axes)) }
+    ensures states { states.new ≡ unless (refusal result) (numbered_states axes ++ drop (length (numbered_states axes)) states.old) states.old }
+    ensures entries { entries.new ≡ unless (refusal result) (diagram_entries axes ++ drop (length (numbered_states axes) * 2 ^ axes) entries.old) entries.old }
     ensures numbered { OnOk result (OneNumbering axes) }
 {
     let need = diagram_room(axes)?;
@@ -39,9 +39,9 @@ fn write_both(axes: u32, states: &mut [Pair], entries: &mut [Entry]) -> u32
     requires most { axes ≤ 8 }
     requires states { most_states axes ≤ length states.old }
     requires entries { most_states axes * 2 ^ axes ≤ length entries.old }
-    ensures count { result ≡ length (numbered-states axes) }
-    ensures states { states.new ≡ numbered-states axes ++ drop (length (numbered-states axes)) states.old }
-    ensures entries { entries.new ≡ diagram-entries axes ++ drop (length (numbered-states axes) * 2 ^ axes) entries.old }
+    ensures count { result ≡ length (numbered_states axes) }
+    ensures states { states.new ≡ numbered_states axes ++ drop (length (numbered_states axes)) states.old }
+    ensures entries { entries.new ≡ diagram_entries axes ++ drop (length (numbered_states axes) * 2 ^ axes) entries.old }
 {
     let mut sequence = [0; 512];
     let long = extend(axes, &mut sequence);
@@ -56,11 +56,11 @@ fn write_entries(axes: u32, rows: &[u8], states: &[Pair], notes: &[u16], entries
     requires least { 2 ≤ axes }
     requires most { axes ≤ 8 }
     requires rows { rows.now ≡ x2 axes }
-    requires states { states.now ≡ numbered-states axes }
+    requires states { states.now ≡ numbered_states axes }
     requires notes { length notes.now ≡ 2048 }
-    requires noted { Noted axes (numbered-states axes) notes.now }
+    requires noted { Noted axes (numbered_states axes) notes.now }
     requires room { length states.now * 2 ^ axes ≤ length entries.old }
-    ensures { entries.new ≡ diagram-entries axes ++ drop (length states.now * 2 ^ axes) entries.old }
+    ensures { entries.new ≡ diagram_entries axes ++ drop (length states.now * 2 ^ axes) entries.old }
 {
     let width = digits(axes);
     for number in 0..states.len() {

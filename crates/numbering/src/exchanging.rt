@@ -4,7 +4,6 @@ ghost use Rattle.numbering.specs.Calls.{axes_refusal};
 ghost use Rattle.numbering.specs.Turnings.{exchanged, exchange_cell, partner};
 ghost use Rattle.numbering.specs.Exchanges.{exchange_turns, exchange_step, exchange_carries};
 ghost use Rattle.numbering.specs.Turned.{turned_onekey, turned_nesting, turned_joined};
-ghost use Rattle.std.proofs.Common.{rules, arith};
 
 use crate::exchange::Exchange;
 use crate::numbering::Numbering;

@@ -6,7 +6,6 @@ ghost use Rattle.numbering.specs.Meaning.{side};
 ghost use Rattle.numbering.specs.Turnings.{mirrored, mirror_cell};
 ghost use Rattle.numbering.specs.Mirrors.{mirror_turns, mirror_step, mirror_carries};
 ghost use Rattle.numbering.specs.Turned.{turned_onekey, turned_nesting, turned_joined};
-ghost use Rattle.std.proofs.Common.{rules, arith};
 
 use crate::mirror::Mirror;
 use crate::numbering::Numbering;

@@ -1,7 +1,6 @@
 ghost use Rattle.std.specs.Prelude.{◌≡◌};
 ghost use Rattle.numbering.specs.Turnings.{reversed};
 ghost use Rattle.numbering.specs.Reversals.{reversed_onekey, reversed_nesting, reversed_joined};
-ghost use Rattle.std.proofs.Common.{rules};
 
 use crate::numbering::Numbering;
 use crate::unbroken::Unbroken;

@@ -1,8 +1,8 @@
 ghost use Rattle.std.specs.Prelude.{◌≡◌, length, IfOk};
 ghost use Rattle.grid.specs.Answers.{refusal, unless, OrMemory};
 ghost use Rattle.grid.specs.Grids.{grid_refusal};
-ghost use Rattle.diagram.specs.Diagrams.{entries as diagram-entries, room_refusal};
-ghost use Rattle.diagram.specs.States.{states as diagram-states};
+ghost use Rattle.diagram.specs.Diagrams.{entries as diagram_entries, room_refusal};
+ghost use Rattle.diagram.specs.States.{states as diagram_states};
 ghost use Rattle.table.specs.Diagram.{DiagramsPass, SameAsReckoned};
 
 use crate::reading::width;
@@ -17,8 +17,8 @@ impl TableNumbering {
         ensures refused { OrMemory (grid_refusal axes order) (refusal result) }
         ensures axes { self.new.grid.axes ≡ unless (refusal result) axes self.old.grid.axes }
         ensures order { self.new.grid.order ≡ unless (refusal result) order self.old.grid.order }
-        ensures states { self.new.states ≡ unless (refusal result) (length (diagram-states axes)) self.old.states }
-        ensures entries { self.new.entries.items ≡ unless (refusal result) (diagram-entries axes) self.old.entries.items }
+        ensures states { self.new.states ≡ unless (refusal result) (length (diagram_states axes)) self.old.states }
+        ensures entries { self.new.entries.items ≡ unless (refusal result) (diagram_entries axes) self.old.entries.items }
         ensures pass { DiagramsPass }
         ensures same { SameAsReckoned }
     {
@@ -29,8 +29,8 @@ impl TableNumbering {
         ensures refused { OrMemory (grid_refusal axes order) (refusal result) }
         ensures axes { self.new.grid.axes ≡ unless (refusal result) axes self.old.grid.axes }
         ensures order { self.new.grid.order ≡ unless (refusal result) order self.old.grid.order }
-        ensures states { self.new.states ≡ unless (refusal result) (length (diagram-states axes)) self.old.states }
-        ensures entries { self.new.entries.items ≡ unless (refusal result) (diagram-entries axes) self.old.entries.items }
+        ensures states { self.new.states ≡ unless (refusal result) (length (diagram_states axes)) self.old.states }
+        ensures entries { self.new.entries.items ≡ unless (refusal result) (diagram_entries axes) self.old.entries.items }
     {
         Grid::new(axes, order)?;
         let diagram = written(heap, axes)?;
@@ -53,8 +53,8 @@ struct DiagramTable {
 
 fn written(heap: Global, axes: u32) -> Result<DiagramTable, Refusal>
     ensures refused { OrMemory (room_refusal axes) (refusal result) }
-    ensures states { IfOk result (λ t. t.states ≡ length (diagram-states axes)) }
-    ensures entries { IfOk result (λ t. t.entries.items ≡ diagram-entries axes) }
+    ensures states { IfOk result (λ t. t.states ≡ length (diagram_states axes)) }
+    ensures entries { IfOk result (λ t. t.entries.items ≡ diagram_entries axes) }
 {
     let room = diagram_room(axes)?;
     let mut states = vec![in heap; Pair { start: 0, shift: 0 }; room.states]?;

@@ -1,6 +1,6 @@
 ghost use Rattle.std.specs.Prelude.{◌≡◌, length, None};
-ghost use Rattle.diagram.specs.Diagrams.{entries as diagram-entries};
-ghost use Rattle.diagram.specs.States.{states as diagram-states};
+ghost use Rattle.diagram.specs.Diagrams.{entries as diagram_entries};
+ghost use Rattle.diagram.specs.States.{states as diagram_states};
 ghost use Rattle.table.specs.Checks.{check_refusal};
 ghost use Rattle.table.specs.Installed.{four_states};
 
@@ -30,7 +30,7 @@ pub const FOUR_STATES: [Entry; 16] = [
 pub fn four_states() -> [Entry; 16]
     ensures table { result ≡ four_states }
     ensures accepted { check_refusal 2 4 result ≡ None }
-    ensures diagram { (result ≡ diagram-entries 2) × (length (diagram-states 2) ≡ 4) }
+    ensures diagram { (result ≡ diagram_entries 2) × (length (diagram_states 2) ≡ 4) }
 {
     FOUR_STATES
 }
