@@ -1,72 +1,45 @@
--- Loops over the axes: what `every` and `lowest` are after i turns, at an early end, and what they tell of each axis.
-use Rattle.std.proofs.Common.{◌≡◌, ℕ, zero, suc, ◌+◌, ◌<◌, Bool, true, false, cond, Some, None, Option, refl, ap, ◌∙◌, ⊎_elim, add-one, arith}
-use Rattle.std.proofs.lemmas.Bool.{cases_lt, cond-true, cond-false, and_from, and_left, and_right, and_parts}
-use Rattle.grid.specs.Axes.{every, lowest}
+-- No axis passes a test exactly when no item does; and the items of two lists side by side.
+use Rattle.std.proofs.Common.{◌≡◌, ℕ, zero, suc, ◌+◌, ◌<◌, ◌≤◌, Bool, false, ltb, List, [], ◌∷◌, length, get_or, Some, None, Option, refl, sym, ap, ◌∙◌, ⊎_elim, arith}
+use Rattle.std.proofs.lemmas.Bool.{cases_Bool, cond-true, cond-false, ltb-false, le-ltb}
+use Rattle.std.proofs.lemmas.Option.{none-some}
+use Rattle.std.proofs.lemmas.List.Sums.{fails_before_first, position_or_len_is}
+use Rattle.std.specs.List.{position, position_or_len, zip}
+use Rattle.std.specs.Option.{option_map}
+use Rattle.grid.specs.Axes.{lowest}
 
--- the step of a recursion on lowest
-abbrev further : Option ℕ → Bool → ℕ → Option ℕ
-further before here n = elim before [ Some axis ↦ Some axis | None ↦ cond here (Some (n + 1)) None ]
+abbrev counted : Option ℕ → Option ℕ
+counted o = option_map (λ i. i + 1) o
 
-module _ (test : ℕ → Bool) where
-  pub every_none : every 0 test ≡ true
-  unfolding every
-  every_none = refl
+unmapped : (o : Option ℕ) → counted o ≡ None → o ≡ None
+unmapped None e = refl
+unmapped (Some i) e = absurd (none-some _ (sym e))
 
-  pub every_more : (i : ℕ) → every i test ≡ true → test i ≡ true → every (i + 1) test ≡ true
-  unfolding every
-  every_more i e t = ap (λ n. every n test) (add-one i) ∙ and_from (every i test) (test i) e t
-
-  pub every_fails : (n i : ℕ) → i < n → test i ≡ false → every n test ≡ false
-  unfolding every
-  every_fails zero i h f = absurd (omega arith)
-  every_fails (suc n) i h f =
+module _ {X : Type 0} (test : X → Bool) (items : List X) where
+  past : position test items ≡ None → ltb (position_or_len test items) (length items) ≡ false
+  past e =
       ⊎_elim
-      (λ l. and_left (every n test) (test n) (every_fails n i l f))
-      (λ l. and_right (every n test) (test n) (let e : n ≡ i = omega arith in ap test e ∙ f))
-      (cases_lt i n)
+      (λ t. absurd (none-some _ (sym e ∙ cond-true (ltb (position_or_len test items) (length items)) _ _ t)))
+      (λ f. f)
+      (cases_Bool (ltb (position_or_len test items) (length items)))
 
-  pub every_tells : (n i : ℕ) → i < n → every n test ≡ true → test i ≡ true
-  unfolding every
-  every_tells zero i h e = absurd (omega arith)
-  every_tells (suc n) i h e =
-      let parts = and_parts (every n test) (test n) e in
-      ⊎_elim (λ l. every_tells n i l parts.0) (λ l. let q : i ≡ n = omega arith in ap test q ∙ parts.1) (cases_lt i n)
+  pub lowest_tells : (i : ℕ) (d : X) → i < length items → lowest test items ≡ None → test (get_or items i d) ≡ false
+  lowest_tells i d h e =
+      let most = ltb-false _ _ (past (unmapped (position test items) e)) in
+      fails_before_first test items i d (omega arith)
 
-  pub lowest_none : lowest 0 test ≡ None
-  unfolding lowest
-  lowest_none = refl
+  pub lowest_nowhere : (d : X) → ((i : ℕ) → i < length items → test (get_or items i d) ≡ false) → lowest test items ≡ None
+  lowest_nowhere d h =
+      let last = position_or_len_is test items (length items) d (omega arith) h (λ l. absurd (omega arith)) in
+      ap counted
+      (cond-false (ltb (position_or_len test items) (length items)) _ _ (le-ltb _ _ (omega arith)))
 
-  pub lowest_more : (i : ℕ) → lowest i test ≡ None → test i ≡ false → lowest (i + 1) test ≡ None
-  unfolding lowest
-  lowest_more i e f =
-      ap (λ n. lowest n test) (add-one i) ∙ ap (λ o. further o (test i) i) e ∙ cond-false (test i) (Some (i + 1)) None f
+pub length-zip : {X Y : Type 0} (xs : List X) (ys : List Y) → length xs ≤ length ys → length (zip xs ys) ≡ length xs
+length-zip [] ys h = refl
+length-zip (x ∷ xs) [] h = absurd (omega arith)
+length-zip (x ∷ xs) (y ∷ ys) h = ap suc (length-zip xs ys (omega arith))
 
-  -- an axis below which none passes, and which passes
-  pub lowest_here : (n i : ℕ) → i < n → lowest i test ≡ None → test i ≡ true → lowest n test ≡ Some (i + 1)
-  unfolding lowest
-  lowest_here zero i h e t = absurd (omega arith)
-  lowest_here (suc n) i h e t =
-      ⊎_elim
-      (λ l. ap (λ o. further o (test n) n) (lowest_here n i l e t))
-      (λ l. let q : n ≡ i = omega arith in
-      ap (λ k. further (lowest k test) (test k) k) q ∙ ap (λ o. further o (test i) i) e ∙ cond-true (test i) (Some (i + 1)) None t)
-      (cases_lt i n)
-
-  further_none : (before : Option ℕ) (here : Bool) (n : ℕ) → further before here n ≡ None → (before ≡ None) × (here ≡ false)
-  further_none (Some axis) here n e = absurd (let z : ◌≡◌ {A = ℕ} 0 1 = cc in omega arith)
-  further_none None true n e = absurd (let z : ◌≡◌ {A = ℕ} 0 1 = cc in omega arith)
-  further_none None false n e = (refl, refl)
-
-  -- where no axis passes
-  pub lowest_tells : (n i : ℕ) → i < n → lowest n test ≡ None → test i ≡ false
-  unfolding lowest
-  lowest_tells zero i h e = absurd (omega arith)
-  lowest_tells (suc n) i h e =
-      let parts = further_none (lowest n test) (test n) n e in
-      ⊎_elim (λ l. lowest_tells n i l parts.0) (λ l. let q : i ≡ n = omega arith in ap test q ∙ parts.1) (cases_lt i n)
-
-  pub lowest_nowhere : (n : ℕ) → ((i : ℕ) → i < n → test i ≡ false) → lowest n test ≡ None
-  unfolding lowest
-  lowest_nowhere zero h = refl
-  lowest_nowhere (suc n) h =
-      ap (λ o. further o (test n) n) (lowest_nowhere n (λ i l. h i (omega arith))) ∙ cond-false (test n) (Some (n + 1)) None (h n (omega arith))
+pub get_or-zip : {X Y : Type 0} (xs : List X) (ys : List Y) (i : ℕ) (d : X) (e : Y) → i < length xs → length xs ≤ length ys → get_or (zip xs ys) i (d, e) ≡ (get_or xs i d, get_or ys i e)
+get_or-zip [] ys i d e h le = absurd (omega arith)
+get_or-zip (x ∷ xs) [] i d e h le = absurd (omega arith)
+get_or-zip (x ∷ xs) (y ∷ ys) zero d e h le = refl
+get_or-zip (x ∷ xs) (y ∷ ys) (suc i) d e h le = get_or-zip xs ys i d e (omega arith) (omega arith)

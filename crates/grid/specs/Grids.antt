@@ -30,12 +30,12 @@ abbrev pub grid_refusal : ℕ → ℕ → Option Refusal
 grid_refusal axes order =
     cond (nat_lt axes 2 || nat_lt 8 axes) (Some (Axes axes)) (cond (nat_lt order 1 || nat_lt 60 (axes * order)) (Some (Order order)) None)
 
--- The coordinate on the axis at place i is not below the side s.
-abbrev pub outside : ℕ → List ℕ → ℕ → Bool
-outside s v i = nat_le s (slice_index v i)
+-- The coordinate is not below the side.
+abbrev pub outside : ℕ → ℕ → Bool
+outside side x = nat_le side x
 
 abbrev pub cell_check : ℕ → ℕ → List ℕ → Option Refusal
 cell_check axes order v =
     cond (length v == axes)
-    (elim (lowest axes (outside (grid_side order) v)) [ Some axis ↦ Some (Coordinate axis) | None ↦ None ])
+    (elim (lowest (outside (grid_side order)) v) [ Some axis ↦ Some (Coordinate axis) | None ↦ None ])
     (Some (CellLength (length v)))

@@ -4,14 +4,12 @@ ghost use Rattle.grid.specs.declared.refusal.Refusal.TheVariants.{Memory};
 use crate::refusal::Refusal;
 use std::alloc::{AllocError, AllocFailed};
 
-const NO_MEMORY: Refusal = Refusal::Memory;
-
 // Want of memory is a refusal too.
 impl From<AllocError> for Refusal {
     ghost from_gives = { λ _ r. r ≡ Memory };
 
     fn from(_error: AllocError) -> Refusal {
-        NO_MEMORY
+        Refusal::Memory
     }
 }
 
@@ -20,6 +18,6 @@ impl<T: Drop> From<AllocFailed<T>> for Refusal {
     ghost from_gives = { λ _ r. r ≡ Memory };
 
     fn from(_error: AllocFailed<T>) -> Refusal {
-        NO_MEMORY
+        Refusal::Memory
     }
 }

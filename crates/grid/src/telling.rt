@@ -55,19 +55,22 @@ impl Refusal {
         ensures { result ≡ told self.now }
     {
         match *self {
-            Refusal::Axes { axes } | Refusal::BoxAxes { axes } => Told::One(axes as u64),
-            Refusal::States { states } => Told::One(states as u64),
+            Refusal::Axes { axes } | Refusal::BoxAxes { axes } => Told::One(u64::from(axes)),
+            Refusal::States { states } => Told::One(u64::from(states)),
             Refusal::PointRepeated { state, digit }
             | Refusal::NextState { state, digit }
             | Refusal::PointsApart { state, digit }
             | Refusal::CornerMoved { state, digit }
-            | Refusal::BlocksApart { state, digit } => Told::Two(state as u64, digit as u64),
-            Refusal::Order { order } => Told::One(order as u64),
+            | Refusal::BlocksApart { state, digit } => Told::Two(
+                u64::from(state),
+                u64::from(digit),
+            ),
+            Refusal::Order { order } => Told::One(u64::from(order)),
             Refusal::Key { key } | Refusal::LastKey { key } => Told::One(key),
             Refusal::Coordinate { axis }
             | Refusal::NoAxis { axis }
             | Refusal::NoNeighbour { axis }
-            | Refusal::LowAboveHigh { axis } => Told::One(axis as u64),
+            | Refusal::LowAboveHigh { axis } => Told::One(u64::from(axis)),
             Refusal::CornerLengths { low, high } => Told::Two(low as u64, high as u64),
             Refusal::BelowMark { mark } => Told::One(mark),
             Refusal::Entries { length }
@@ -142,13 +145,6 @@ impl fmt::Display for Refusal {
             Some(number) => write!(f, "refused with {number}: {reason}{told}"),
             None => write!(f, "refused: {reason}{told}"),
         }
-    }
-}
-
-// As it is shown to a person.
-impl fmt::Debug for Refusal {
-    fn fmt<W: fmt::Write>(&self, f: &mut fmt::Formatter<W>) -> fmt::Result {
-        write!(f, "{self}")
     }
 }
 

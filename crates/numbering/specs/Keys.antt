@@ -6,7 +6,7 @@ use Rattle.std.proofs.lemmas.Bool.Decides.{nat_tests}
 use Rattle.grid.specs.declared.refusal.Refusal.{Refusal}
 use Rattle.grid.specs.declared.refusal.Refusal.TheVariants.{Key}
 use Rattle.grid.specs.Answers.{answer}
-use Rattle.grid.proofs.Checked.{some_none, inside_accepted}
+use Rattle.grid.proofs.Checked.{inside_accepted}
 use Rattle.numbering.specs.Calls.{cell_refusal, CellAnswer, key_in_grid, key_refusal, step_refusal, KeyOf, KeyAnswer, Undo}
 use Rattle.numbering.specs.Meaning.{Meaning, OneKey, size}
 
