@@ -6,6 +6,7 @@ use Rattle.std.proofs.lemmas.Bool.Decides.{nat_tests}
 use Rattle.grid.specs.declared.refusal.Refusal.{Refusal}
 use Rattle.grid.specs.declared.refusal.Refusal.TheVariants.{Key}
 use Rattle.grid.specs.Answers.{answer}
+use Rattle.std.proofs.lemmas.Option.{none-some}
 use Rattle.grid.proofs.Checked.{inside_accepted}
 use Rattle.numbering.specs.Calls.{cell_refusal, CellAnswer, key_in_grid, key_refusal, step_refusal, KeyOf, KeyAnswer, Undo}
 use Rattle.numbering.specs.Meaning.{Meaning, OneKey, size}
@@ -13,7 +14,7 @@ use Rattle.numbering.specs.Meaning.{Meaning, OneKey, size}
 -- a call for the key of a cell that is not refused
 pub key_found : (m : Meaning) (v : List ℕ) (r : Result ℕ Refusal) → key_refusal m v ≡ None → KeyAnswer m v r → (c : ℕ) × (r ≡ Ok c) × KeyOf m v c
 key_found m v (Ok c) e k = (c, refl, k.key)
-key_found m v (Err e') e k = absurd (some_none (k.refused ∙ e))
+key_found m v (Err e') e k = absurd (none-some _ (sym (k.refused ∙ e)))
 
 pub undoes : (m : Meaning) → OneKey m → Undo m
 undoes m law =

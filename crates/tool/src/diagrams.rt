@@ -1,4 +1,4 @@
-use crate::table_text::row_text;
+use crate::table_text::Row;
 use diagram::{Entry, Pair, diagram_room, write_diagram};
 
 // Prints the diagram of that many axes: the number of axes and of states, then a line for each state.
@@ -10,8 +10,8 @@ pub fn print_diagram(rt: &HostRuntime, axes: u32) -> anyhow::Result<()> {
     let count = write_diagram(axes, states.as_mut_slice(), entries.as_mut_slice())?;
     println!(rt; "{axes} {count}")?;
     let rows = entries.as_slice().chunks(1 << axes);
-    for (state, row) in rows.take(count as usize).enumerate() {
-        rt.println(row_text(heap, axes, state, row)?)?;
+    for (state, entries) in rows.take(count as usize).enumerate() {
+        println!(rt; "{}", Row { axes, state, entries })?;
     }
     Ok(())
 }

@@ -1,28 +1,21 @@
 use diagram::Entry;
-use std::alloc::{AllocError, Global};
+use std::fmt;
 
-// A state's line: its number, then for each digit the n-point in as many binary digits as there are axes, a colon and the next state.
-pub(crate) fn row_text(
-    heap: Global,
-    axes: u32,
-    state: usize,
-    entries: &[Entry],
-) -> Result<String, AllocError> {
-    let mut text = format!(in heap; "{state}")?;
-    for entry in entries {
-        text.push(' ')?;
-        push_bits(&mut text, axes, entry.point)?;
-        let next = format!(in heap; ":{}", entry.next)?;
-        text.push_str(next.as_str())?;
-    }
-    Ok(text)
+// A state of a table as a line: its number, then for each digit the n-point in as many binary digits as there are axes, a colon and the next state.
+#[derive(Clone, Copy)]
+pub(crate) struct Row<'a> {
+    pub(crate) axes: u32,
+    pub(crate) state: usize,
+    pub(crate) entries: &'a [Entry],
 }
 
-// The lowest bits of a number, the highest of them first.
-fn push_bits(text: &mut String, count: u32, number: u8) -> Result<(), AllocError> {
-    for place in (0..count).rev() {
-        let bit = u32::from(number).checked_shr(place).unwrap_or(0) & 1;
-        text.push(if bit == 1 { '1' } else { '0' })?;
+impl fmt::Display for Row<'_> {
+    fn fmt<W: fmt::Write>(&self, f: &mut fmt::Formatter<W>) -> fmt::Result {
+        let width = self.axes as usize;
+        write!(f, "{}", self.state)?;
+        for entry in self.entries {
+            write!(f, " {:0width$b}:{}", entry.point, entry.next)?;
+        }
+        Ok(())
     }
-    Ok(())
 }
