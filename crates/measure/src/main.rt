@@ -41,7 +41,7 @@ fn time<N: Numbering>(rt: &HostRuntime, numbering: &N, rounds: u64) -> anyhow::R
     let keys = keys(numbering, rounds)?;
     let key_time = per_round(start.elapsed(rt)?, rounds).saturating_sub(cell_time);
     // What was reckoned is told where it can be wrong, so that nothing is left out.
-    if cells == u32::MAX && keys != 0 {
+    if cells == u64::MAX && keys != 0 {
         print!(rt; "?")?;
     }
     Ok(print!(rt; "  {cell_time:>12} {key_time:>5}")?)
@@ -56,28 +56,34 @@ fn spread(round: u64, size: u64) -> u64 {
     round.wrapping_mul(0x9e37_79b9_7f4a_7c15) % size.max(1)
 }
 
-fn cells<N: Numbering>(numbering: &N, rounds: u64) -> Result<u32, Refusal> {
-    let mut places = [0u32; 8];
-    let cell = &mut places[0..numbering.axes() as usize];
-    let size = numbering.grid().size();
-    let mut sum = 0;
-    for round in 0..rounds {
-        numbering.cell_of(spread(round, size), cell)?;
-        sum ^= cell[0];
-    }
-    Ok(sum)
+fn cells<N: Numbering>(numbering: &N, rounds: u64) -> Result<u64, Refusal> {
+    over_keys(numbering, rounds, |key, cell| {
+        numbering.cell_of(key, cell)?;
+        Ok(cell.first().copied().map_or(0, u64::from))
+    })
 }
 
-// Each key's cell, and its key again: the difference counts the keys that are not the first.
+// Each key's cell, and its key again: 0, where each is the key that it was.
 fn keys<N: Numbering>(numbering: &N, rounds: u64) -> Result<u64, Refusal> {
+    over_keys(numbering, rounds, |key, cell| {
+        numbering.cell_of(key, cell)?;
+        Ok(numbering.key_of(cell)? ^ key)
+    })
+}
+
+// What a closure makes of a key for each round, all bits together. It is lent a list for a cell.
+fn over_keys<N, F>(numbering: &N, rounds: u64, mut made: F) -> Result<u64, Refusal>
+where
+    N: Numbering,
+    F: FnMut(u64, &mut [u32]) -> Result<u64, Refusal>,
+    requires { F.IsAlwaysCallable made }
+{
     let mut places = [0u32; 8];
     let cell = &mut places[0..numbering.axes() as usize];
     let size = numbering.grid().size();
-    let mut wrong = 0;
+    let mut bits = 0;
     for round in 0..rounds {
-        let key = spread(round, size);
-        numbering.cell_of(key, cell)?;
-        wrong |= numbering.key_of(cell)? ^ key;
+        bits |= made(spread(round, size), cell)?;
     }
-    Ok(wrong)
+    Ok(bits)
 }

@@ -39,13 +39,14 @@ pub(crate) fn scan(
     soundings: &[Sounding],
     wanted: GridBox,
 ) -> Result<Vec<Row>, Refusal> {
-    let mut found = Vec::new(heap);
-    for row in table {
-        if let Some(sounding) = soundings.get(row.number) {
-            if wanted.contains(&sounding.cell) {
-                found.push(*row)?;
-            }
-        }
-    }
+    let found = table
+        .iter()
+        .copied()
+        .filter(|row| {
+            soundings
+                .get(row.number)
+                .is_some_and(|sounding| wanted.contains(&sounding.cell))
+        })
+        .collect(heap)?;
     Ok(found)
 }

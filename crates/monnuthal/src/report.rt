@@ -104,13 +104,9 @@ fn beside<N: Numbering>(
     key: u64,
     direction: Direction,
 ) -> io::Result<()> {
-    let word = match direction {
-        Direction::Up => "up",
-        Direction::Down => "down",
-    };
     match neighbour(numbering, key, Step { axis: 3, direction }) {
-        Ok(other) => print!(rt; "{word} {other}"),
-        Err(refusal) => print!(rt; "{word} {refusal}"),
+        Ok(other) => print!(rt; "{direction} {other}"),
+        Err(refusal) => print!(rt; "{direction} {refusal}"),
     }
 }
 

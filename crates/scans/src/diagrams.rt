@@ -1,39 +1,65 @@
 // Written diagrams: the printed tables of three axes whole, both ways, the four states of two axes, and what is left alone.
-use crate::hilbert::{NEXT, POINTS};
+use crate::hilbert::STATES;
 use diagram::{Entry, Pair, diagram_room, write_diagram};
 use grid::Refusal;
 use std::alloc::Global;
 use std::test::Fail;
 
-// The other printed table: for each n-point of a state its digit, and below it the next state.
-const DIGITS: [[u32; 8]; 12] = [
-    [0, 1, 3, 2, 7, 6, 4, 5],
-    [0, 7, 1, 6, 3, 4, 2, 5],
-    [0, 3, 7, 4, 1, 2, 6, 5],
-    [2, 3, 1, 0, 5, 4, 6, 7],
-    [4, 3, 5, 2, 7, 0, 6, 1],
-    [6, 5, 1, 2, 7, 4, 0, 3],
-    [4, 7, 3, 0, 5, 6, 2, 1],
-    [6, 7, 5, 4, 1, 0, 2, 3],
-    [2, 5, 3, 4, 1, 6, 0, 7],
-    [2, 1, 5, 6, 3, 0, 4, 7],
-    [4, 5, 7, 6, 3, 2, 0, 1],
-    [6, 1, 7, 0, 5, 2, 4, 3],
-];
+// A state of the other printed table: by n-point its digit, and below it the next state.
+struct ByPoint {
+    digits: [usize; 8],
+    next: [u16; 8],
+}
 
-const NEXT_BY_POINT: [[u16; 8]; 12] = [
-    [1, 2, 3, 2, 4, 5, 3, 5],
-    [2, 6, 0, 7, 8, 8, 0, 7],
-    [0, 9, 10, 9, 1, 1, 11, 11],
-    [6, 0, 6, 11, 9, 0, 9, 8],
-    [11, 11, 0, 7, 5, 9, 0, 7],
-    [4, 4, 8, 8, 0, 6, 10, 6],
-    [5, 7, 5, 3, 1, 1, 11, 11],
-    [6, 1, 6, 10, 9, 4, 9, 10],
-    [10, 3, 1, 1, 10, 3, 5, 9],
-    [4, 4, 8, 8, 2, 7, 2, 3],
-    [7, 2, 11, 2, 7, 5, 8, 5],
-    [10, 3, 2, 6, 10, 3, 4, 4],
+const BY_POINT: [ByPoint; 12] = [
+    ByPoint {
+        digits: [0, 1, 3, 2, 7, 6, 4, 5],
+        next: [1, 2, 3, 2, 4, 5, 3, 5],
+    },
+    ByPoint {
+        digits: [0, 7, 1, 6, 3, 4, 2, 5],
+        next: [2, 6, 0, 7, 8, 8, 0, 7],
+    },
+    ByPoint {
+        digits: [0, 3, 7, 4, 1, 2, 6, 5],
+        next: [0, 9, 10, 9, 1, 1, 11, 11],
+    },
+    ByPoint {
+        digits: [2, 3, 1, 0, 5, 4, 6, 7],
+        next: [6, 0, 6, 11, 9, 0, 9, 8],
+    },
+    ByPoint {
+        digits: [4, 3, 5, 2, 7, 0, 6, 1],
+        next: [11, 11, 0, 7, 5, 9, 0, 7],
+    },
+    ByPoint {
+        digits: [6, 5, 1, 2, 7, 4, 0, 3],
+        next: [4, 4, 8, 8, 0, 6, 10, 6],
+    },
+    ByPoint {
+        digits: [4, 7, 3, 0, 5, 6, 2, 1],
+        next: [5, 7, 5, 3, 1, 1, 11, 11],
+    },
+    ByPoint {
+        digits: [6, 7, 5, 4, 1, 0, 2, 3],
+        next: [6, 1, 6, 10, 9, 4, 9, 10],
+    },
+    ByPoint {
+        digits: [2, 5, 3, 4, 1, 6, 0, 7],
+        next: [10, 3, 1, 1, 10, 3, 5, 9],
+    },
+    ByPoint {
+        digits: [2, 1, 5, 6, 3, 0, 4, 7],
+        next: [4, 4, 8, 8, 2, 7, 2, 3],
+    },
+    ByPoint {
+        digits: [4, 5, 7, 6, 3, 2, 0, 1],
+        next: [7, 2, 11, 2, 7, 5, 8, 5],
+    },
+    ByPoint {
+        digits: [6, 1, 7, 0, 5, 2, 4, 3],
+        next: [10, 3, 2, 6, 10, 3, 4, 4],
+    },
 ];
 
 // A record and an entry that no diagram has.
@@ -72,10 +98,10 @@ fn printed_tables(rt: HostRuntime) -> Result<(), Fail> {
     let table = diagram_of(rt.alloc(), 3)?;
     assert_eq!(rt; table.count, 12);
     let rows = table.entries.as_slice().chunks(8);
-    for ((row, points), next) in rows.zip(POINTS.iter()).zip(NEXT.iter()) {
-        for ((entry, point), state) in row.iter().zip(points.iter()).zip(next.iter()) {
-            assert_eq!(rt; entry.point as u32, *point);
-            assert_eq!(rt; entry.next as usize, *state);
+    for (row, printed) in rows.zip(&STATES) {
+        for (entry, (point, next)) in row.iter().zip(printed.points.iter().zip(&printed.next)) {
+            assert_eq!(rt; u32::from(entry.point), *point);
+            assert_eq!(rt; usize::from(entry.next), *next);
         }
     }
     Ok(())
@@ -85,11 +111,11 @@ fn printed_tables(rt: HostRuntime) -> Result<(), Fail> {
 fn printed_tables_backwards(rt: HostRuntime) -> Result<(), Fail> {
     let table = diagram_of(rt.alloc(), 3)?;
     let rows = table.entries.as_slice().chunks(8);
-    for ((row, digits), next) in rows.zip(DIGITS.iter()).zip(NEXT_BY_POINT.iter()) {
-        for ((point, digit), state) in digits.iter().enumerate().zip(next.iter()) {
-            let entry = row.get(*digit as usize).ok_or("no such digit")?;
-            assert_eq!(rt; entry.point as usize, point);
-            assert_eq!(rt; entry.next, *state);
+    for (row, printed) in rows.zip(&BY_POINT) {
+        for (point, (digit, next)) in printed.digits.iter().zip(&printed.next).enumerate() {
+            let entry = row.get(*digit).ok_or("no such digit")?;
+            assert_eq!(rt; usize::from(entry.point), point);
+            assert_eq!(rt; entry.next, *next);
         }
     }
     Ok(())
@@ -113,7 +139,7 @@ fn numbers_of_states(rt: HostRuntime) -> Result<(), Fail> {
         assert_eq!(rt; table.count, count);
         // What stands behind is left alone.
         let last = table.states.get(count as usize).ok_or("no record behind")?;
-        assert!(rt; last.start == 999 && last.shift == 99);
+        assert_eq!(rt; *last, NO_PAIR);
         assert_eq!(rt; table.entries.get(entries), Some(&NO_ENTRY));
         assert_eq!(rt; table.entries.len(), entries.wrapping_add(1));
     }
@@ -124,9 +150,8 @@ fn numbers_of_states(rt: HostRuntime) -> Result<(), Fail> {
 #[test]
 fn four_pairs(rt: HostRuntime) -> Result<(), Fail> {
     let table = diagram_of(rt.alloc(), 2)?;
-    let pairs = [(0u64, 0u32), (0, 1), (3, 1), (3, 0)];
-    for (state, pair) in table.states.iter().zip(pairs.iter()) {
-        assert_eq!(rt; (state.start, state.shift), *pair);
+    for (state, (start, shift)) in table.states.iter().zip([(0, 0), (0, 1), (3, 1), (3, 0)]) {
+        assert_eq!(rt; *state, Pair { start, shift });
     }
     Ok(())
 }

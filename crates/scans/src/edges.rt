@@ -56,7 +56,7 @@ fn keys_and_cells(rt: HostRuntime) -> Result<(), Fail> {
     let mut long = [7u32; 3];
     refused(&rt, numbering.cell_of(16, &mut long), 10, Told::One(16))?;
     refused(&rt, numbering.cell_of(15, &mut long), 11, Told::One(3))?;
-    assert!(rt; long[0] == 7 && long[1] == 7 && long[2] == 7);
+    assert_eq!(rt; long, [7; 3]);
     for (key, x, y) in [
         (0, 0, 0),
         (3, 1, 1),
@@ -67,7 +67,7 @@ fn keys_and_cells(rt: HostRuntime) -> Result<(), Fail> {
     ] {
         let mut cell = [7u32; 2];
         numbering.cell_of(key, &mut cell)?;
-        assert!(rt; cell[0] == x && cell[1] == y);
+        assert_eq!(rt; cell, [x, y]);
         assert_eq!(rt; numbering.key_of(&[x, y])?, key);
     }
     refused(&rt, numbering.key_of(&[4, 4, 4]), 11, Told::One(3))?;

@@ -5,51 +5,89 @@ use numbering::{Numbering, Unbroken, neighbour};
 use std::process::Abort;
 use std::test::Fail;
 
-// The n-points of each state by digit, and its next states.
-pub(crate) const POINTS: [[u32; 8]; 12] = [
-    [0, 1, 3, 2, 6, 7, 5, 4],
-    [0, 2, 6, 4, 5, 7, 3, 1],
-    [0, 4, 5, 1, 3, 7, 6, 2],
-    [3, 2, 0, 1, 5, 4, 6, 7],
-    [5, 7, 3, 1, 0, 2, 6, 4],
-    [6, 2, 3, 7, 5, 1, 0, 4],
-    [3, 7, 6, 2, 0, 4, 5, 1],
-    [5, 4, 6, 7, 3, 2, 0, 1],
-    [6, 4, 0, 2, 3, 1, 5, 7],
-    [5, 1, 0, 4, 6, 2, 3, 7],
-    [6, 7, 5, 4, 0, 1, 3, 2],
-    [3, 1, 5, 7, 6, 4, 0, 2],
-];
+// A state of three axes as it is printed, and the digits that lead there from state 0.
+pub(crate) struct PrintedState {
+    // How many digits, and the key that they are.
+    digits: u32,
+    key: u64,
+    // By digit: the n-point and the next state.
+    pub(crate) points: [u32; 8],
+    pub(crate) next: [usize; 8],
+}
 
-pub(crate) const NEXT: [[usize; 8]; 12] = [
-    [1, 2, 2, 3, 3, 5, 5, 4],
-    [2, 0, 0, 8, 8, 7, 7, 6],
-    [0, 1, 1, 9, 9, 11, 11, 10],
-    [11, 6, 6, 0, 0, 9, 9, 8],
-    [9, 7, 7, 11, 11, 0, 0, 5],
-    [10, 8, 8, 6, 6, 4, 4, 0],
-    [3, 11, 11, 5, 5, 1, 1, 7],
-    [4, 9, 9, 10, 10, 6, 6, 1],
-    [5, 10, 10, 1, 1, 3, 3, 9],
-    [7, 4, 4, 2, 2, 8, 8, 3],
-    [8, 5, 5, 7, 7, 2, 2, 11],
-    [6, 3, 3, 4, 4, 10, 10, 2],
-];
-
-// Each state by the digits that lead there from state 0: how many, and the key that they are.
-const PATHS: [(u32, u64); 12] = [
-    (0, 0),
-    (1, 0),
-    (1, 1),
-    (1, 3),
-    (1, 7),
-    (1, 5),
-    (2, 7),
-    (2, 5),
-    (2, 3),
-    (2, 11),
-    (2, 15),
-    (2, 13),
+pub(crate) const STATES: [PrintedState; 12] = [
+    PrintedState {
+        digits: 0,
+        key: 0,
+        points: [0, 1, 3, 2, 6, 7, 5, 4],
+        next: [1, 2, 2, 3, 3, 5, 5, 4],
+    },
+    PrintedState {
+        digits: 1,
+        key: 0,
+        points: [0, 2, 6, 4, 5, 7, 3, 1],
+        next: [2, 0, 0, 8, 8, 7, 7, 6],
+    },
+    PrintedState {
+        digits: 1,
+        key: 1,
+        points: [0, 4, 5, 1, 3, 7, 6, 2],
+        next: [0, 1, 1, 9, 9, 11, 11, 10],
+    },
+    PrintedState {
+        digits: 1,
+        key: 3,
+        points: [3, 2, 0, 1, 5, 4, 6, 7],
+        next: [11, 6, 6, 0, 0, 9, 9, 8],
+    },
+    PrintedState {
+        digits: 1,
+        key: 7,
+        points: [5, 7, 3, 1, 0, 2, 6, 4],
+        next: [9, 7, 7, 11, 11, 0, 0, 5],
+    },
+    PrintedState {
+        digits: 1,
+        key: 5,
+        points: [6, 2, 3, 7, 5, 1, 0, 4],
+        next: [10, 8, 8, 6, 6, 4, 4, 0],
+    },
+    PrintedState {
+        digits: 2,
+        key: 7,
+        points: [3, 7, 6, 2, 0, 4, 5, 1],
+        next: [3, 11, 11, 5, 5, 1, 1, 7],
+    },
+    PrintedState {
+        digits: 2,
+        key: 5,
+        points: [5, 4, 6, 7, 3, 2, 0, 1],
+        next: [4, 9, 9, 10, 10, 6, 6, 1],
+    },
+    PrintedState {
+        digits: 2,
+        key: 3,
+        points: [6, 4, 0, 2, 3, 1, 5, 7],
+        next: [5, 10, 10, 1, 1, 3, 3, 9],
+    },
+    PrintedState {
+        digits: 2,
+        key: 11,
+        points: [5, 1, 0, 4, 6, 2, 3, 7],
+        next: [7, 4, 4, 2, 2, 8, 8, 3],
+    },
+    PrintedState {
+        digits: 2,
+        key: 15,
+        points: [6, 7, 5, 4, 0, 1, 3, 2],
+        next: [8, 5, 5, 7, 7, 2, 2, 11],
+    },
+    PrintedState {
+        digits: 2,
+        key: 13,
+        points: [3, 1, 5, 7, 6, 4, 0, 2],
+        next: [6, 3, 3, 4, 4, 10, 10, 2],
+    },
 ];
 
 fn reckoned(axes: u32, order: u32) -> Result<Reckoned, Fail> {
@@ -65,33 +103,36 @@ fn cell<N: Numbering>(numbering: &N, key: u64) -> Result<[u32; 8], Fail> {
     Ok(places)
 }
 
+// The n-point of the bits at a place, 0 or 1.
+fn point_at([x, y, z]: [u32; 3], place: u32) -> u32
+    requires { place < 2 }
+{
+    ((x >> place) & 1) * 4 + ((y >> place) & 1) * 2 + ((z >> place) & 1)
+}
+
 // The n-points of the last two digits of a key, and back.
 fn last_points(rt: &impl Abort, order: u32, key: u64, before: u32, last: u32) -> Result<(), Fail> {
     let numbering = reckoned(3, order)?;
     let mut cell = [0u32; 3];
     numbering.cell_of(key, &mut cell)?;
-    let [x, y, z] = cell;
-    assert_eq!(rt; (x & 1) * 4 + (y & 1) * 2 + (z & 1), last);
-    assert_eq!(rt;
-        ((x >> 1) & 1) * 4 + ((y >> 1) & 1) * 2 + ((z >> 1) & 1),
-        before
-    );
+    assert_eq!(rt; point_at(cell, 0), last);
+    assert_eq!(rt; point_at(cell, 1), before);
     assert_eq!(rt; numbering.key_of(&cell)?, key);
     Ok(())
 }
 
 #[test]
 fn printed_states(rt: HostRuntime) -> Result<(), Fail> {
-    for ((path, points), next) in PATHS.iter().zip(POINTS.iter()).zip(NEXT.iter()) {
-        let (digits, front) = *path;
-        for (d, (before, state)) in points.iter().zip(next.iter()).enumerate() {
-            let row = POINTS.get(*state).ok_or("no such state")?;
-            for (e, last) in row.iter().enumerate() {
-                let key = front
+    for state in &STATES {
+        for (d, (before, next)) in state.points.iter().zip(&state.next).enumerate() {
+            let row = STATES.get(*next).ok_or("no such state")?;
+            for (e, last) in row.points.iter().enumerate() {
+                let key = state
+                    .key
                     .wrapping_mul(64)
                     .wrapping_add(d as u64 * 8)
                     .wrapping_add(e as u64);
-                last_points(&rt, digits.wrapping_add(2), key, *before, *last)?;
+                last_points(&rt, state.digits.wrapping_add(2), key, *before, *last)?;
             }
         }
     }
@@ -117,9 +158,7 @@ fn row_sequence(rt: HostRuntime) -> Result<(), Fail> {
     let printed = [0u8, 1, 0, 2, 0, 2, 3, 7, 3, 7, 6, 4, 6, 4, 5, 4];
     let mut list = [9u8; 17];
     assert_eq!(rt; write_x2(3, &mut list)?, 16);
-    for (member, wanted) in list.iter().zip(printed.iter()) {
-        assert_eq!(rt; *member, *wanted);
-    }
+    assert_eq!(rt; &list[..16], printed.as_slice());
     assert_eq!(rt; list[16], 9);
     assert!(rt; write_x2(9, &mut list).is_err() && write_x2(4, &mut list).is_err());
     Ok(())

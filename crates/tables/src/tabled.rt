@@ -28,10 +28,7 @@ fn agree<N: Unbroken, M: Unbroken>(
     reckoned: &M,
     key: u64,
 ) -> Result<(), Fail> {
-    let there = cell(rt, reckoned, key)?;
-    for (x, y) in cell(rt, table, key)?.iter().zip(there.iter()) {
-        assert_eq!(rt; *x, *y);
-    }
+    assert_eq!(rt; cell(rt, table, key)?, cell(rt, reckoned, key)?);
     if key < table.steps() {
         assert_eq!(rt; table.step(key)?, reckoned.step(key)?);
     }
