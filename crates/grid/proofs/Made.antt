@@ -1,17 +1,11 @@
 -- Making a box: its eight places, and its law.
-use Rattle.std.proofs.Common.{◌≡◌, ℕ, ◌-◌, ◌<◌, ◌≤◌, List, ◌++◌, length, get_or, drop, replicate, None, sym, ap, ◌∙◌, arith}
-use Rattle.std.proofs.lemmas.List.{drop-replicate, get_or_append_left}
+use Rattle.std.proofs.Common.{◌≡◌, ℕ, ◌-◌, ◌<◌, ◌≤◌, List, length, get_or, replicate, None, sym, ap, ◌∙◌, arith}
+use Rattle.std.proofs.lemmas.List.{get_or_append_left}
 use Rattle.std.proofs.lemmas.Bool.{ltb-false}
 use Rattle.grid.specs.Axes.{lowest}
 use Rattle.grid.specs.Corners.{Ordered, crossed, padded}
 use Rattle.std.specs.List.{zip}
 use Rattle.grid.proofs.AxisTests.{lowest_tells, length-zip, get_or-zip}
-
-pub padded_is : (corner front : List ℕ) → front ≡ corner → front ++ drop (length corner - 0) (replicate 8 0) ≡ padded corner
-padded_is corner front e =
-    let z : length corner - 0 ≡ length corner = omega arith in
-    ap (λ f. f ++ drop (length corner - 0) (replicate 8 0)) e
-    ∙ ap (λ rest. corner ++ rest) (drop-replicate (length corner - 0) 8 0 ∙ ap (λ k. replicate (8 - k) 0) z)
 
 padded_at : (corner : List ℕ) (i : ℕ) → i < length corner → get_or (padded corner) i 0 ≡ get_or corner i 0
 padded_at corner i h = get_or_append_left corner (replicate (8 - length corner) 0) 0 i h
