@@ -1,5 +1,6 @@
 pub mod Answers
 pub mod Axes
+pub mod AxisCounts
 pub mod Boxes
 pub mod Corners
 pub mod Grids

@@ -8,6 +8,8 @@ mod refusal;
 mod telling;
 // Want of memory as a refusal.
 mod memory;
+// A number of axes.
+mod axis_count;
 // A grid: its axes and its order, within the limits.
 mod grid;
 // Making a grid, its side and its size.
@@ -21,6 +23,7 @@ mod grid_box;
 // Making a box, and whether it holds a cell.
 mod boxes;
 
+pub use axis_count::AxisCount;
 pub use grid::Grid;
 pub use grid_box::GridBox;
 pub use refusal::Refusal;
