@@ -16,8 +16,8 @@ pub type Exchange<N> = Turned<ExchangedAxes, N>;
 #[derive(Clone, Copy)]
 pub struct ExchangedAxes {
     // Counted from 1. No call sets an axis past the last, which would exchange nothing.
-    pub(crate) first: u32,
-    pub(crate) second: u32,
+    first: u32,
+    second: u32,
     ghost counted: { (1 ≤ first) × (1 ≤ second) },
 }
 

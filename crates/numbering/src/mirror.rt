@@ -17,7 +17,7 @@ pub type Mirror<N> = Turned<MirrorAxis, N>;
 #[derive(Clone, Copy)]
 pub struct MirrorAxis {
     // Counted from 1. No call sets an axis past the last, which would mirror nothing.
-    pub(crate) axis: u32,
+    axis: u32,
     ghost counted: { 1 ≤ axis },
 }
 
