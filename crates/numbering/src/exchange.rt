@@ -12,7 +12,7 @@ use grid::{Grid, Refusal, Step};
 // The inner numbering with two coordinates exchanged; equal axes exchange nothing.
 pub type Exchange<N> = Turned<ExchangedAxes, N>;
 
-// The axes whose coordinates an exchange exchanges.
+// The two axes whose coordinates change places.
 #[derive(Clone, Copy)]
 pub struct ExchangedAxes {
     // Counted from 1. No call sets an axis past the last, which would exchange nothing.

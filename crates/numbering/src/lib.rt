@@ -8,11 +8,11 @@ mod numbering;
 mod unbroken;
 // The turning that runs through the keys backwards.
 mod reversal;
-// The turnings that change each cell.
+// What the turnings share that change each cell.
 mod turned;
-// The one that mirrors one axis.
+// The turning that mirrors one axis.
 mod mirror;
-// The one that exchanges two axes.
+// The turning that exchanges two axes.
 mod exchange;
 // Whether there is such an axis.
 mod axes;

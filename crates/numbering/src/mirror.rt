@@ -13,7 +13,7 @@ use grid::{Grid, Refusal, Step};
 // The inner numbering with one coordinate x replaced by the side less 1 less x.
 pub type Mirror<N> = Turned<MirrorAxis, N>;
 
-// The axis on which a mirror replaces the coordinate.
+// The axis whose coordinate a mirror replaces.
 #[derive(Clone, Copy)]
 pub struct MirrorAxis {
     // Counted from 1. No call sets an axis past the last, which would mirror nothing.
@@ -55,6 +55,7 @@ impl CellTurn for MirrorAxis {
     ghost carries = { λ x m. mirror_carries m (x.axis - 1) };
 
     // By index: once what a slice's get_mut lends is given back, a proof knows none of the elements.
+    // A coordinate past the side becomes 0, so any cell may be given.
     #[tactic(auto, using(std::proofs::lemmas::List::set_past))]
     fn turn_cell(self, grid: Grid, cell: &mut [u32]) {
         let place = (self.axis - 1) as usize;

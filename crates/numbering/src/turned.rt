@@ -8,23 +8,26 @@ use crate::numbering::Numbering;
 use crate::unbroken::Unbroken;
 use grid::{Grid, Refusal, Step};
 
-// A change of each cell that undoes itself, keeps blocks together and carries steps to steps.
+// What a turning does that changes each cell by itself.
 pub trait CellTurn: Copy {
-    // What a cell becomes, by the axes and the order of its grid.
+    // The cell that a cell becomes, by the axes and the order of the grid.
     ghost changed: { Self → ℕ → ℕ → List ℕ → List ℕ };
 
-    // What the step between two cells becomes, by the axes of their grid.
+    // The step that a step becomes, by the axes of the grid.
     ghost carried: { Self → ℕ → Step → Step };
 
+    // Changes a cell.
     fn turn_cell(self, grid: Grid, cell: &mut [u32])
         ensures { cell.new ≡ changed self grid.axes grid.order cell.old };
 
-    // Axes count from 1, so no step along an axis 0 leads anywhere.
+    // The step between two changed cells, from that between the two. Axes count from 1.
     fn turn_step(self, grid: Grid, step: Step) -> Step
         ensures { 1 ≤ step.axis → result ≡ carried self grid.axes step };
 
+    // The change undoes itself, and keeps the grid and its blocks.
     ghost turns: { (x : Self) (m : Meaning) → Turns m (changed x m.axes m.order) };
 
+    // A step that leads from one cell to another becomes one that leads from the one changed to the other changed.
     ghost carries: { (x : Self) (m : Meaning) → Carries m (changed x m.axes m.order) (carried x m.axes) };
 }
 
@@ -53,11 +56,11 @@ impl<T: CellTurn, N: Numbering> Numbering for Turned<T, N> {
 
     ghost onekey = { λ x.
         let m = N.Numbering.meaning x.inner in
-        turned_onekey m (N.Numbering.onekey x.inner) (T.CellTurn.changed x.turn m.axes m.order) (T.CellTurn.turns x.turn m) };
+        turned_onekey m (N.Numbering.onekey x.inner) _ (T.CellTurn.turns x.turn m) };
 
     ghost nesting = { λ x.
         let m = N.Numbering.meaning x.inner in
-        turned_nesting m (N.Numbering.onekey x.inner) (T.CellTurn.changed x.turn m.axes m.order) (T.CellTurn.turns x.turn m) (N.Numbering.nesting x.inner) };
+        turned_nesting m (N.Numbering.onekey x.inner) _ (T.CellTurn.turns x.turn m) (N.Numbering.nesting x.inner) };
 
     fn grid(&self) -> Grid {
         self.inner.grid()
@@ -84,8 +87,7 @@ impl<T: CellTurn, N: Numbering> Numbering for Turned<T, N> {
 impl<T: CellTurn, N: Unbroken> Unbroken for Turned<T, N> {
     ghost joined = { λ x.
         let m = N.Numbering.meaning x.inner in
-        turned_joined m (N.Numbering.onekey x.inner) (T.CellTurn.changed x.turn m.axes m.order) (T.CellTurn.turns x.turn m)
-        (T.CellTurn.carried x.turn m.axes) (T.CellTurn.carries x.turn m) (N.Unbroken.joined x.inner) };
+        turned_joined m (N.Numbering.onekey x.inner) _ (T.CellTurn.turns x.turn m) _ (T.CellTurn.carries x.turn m) (N.Unbroken.joined x.inner) };
 
     fn step(&self, key: u64) -> Result<Step, Refusal> {
         let step = self.inner.step(key)?;
