@@ -10,7 +10,7 @@ use Rattle.grid.specs.declared.step.Direction.TheVariants.{Up, Down}
 use Rattle.grid.specs.declared.step.Step.{Step}
 use Rattle.grid.specs.Grids.{InGrid}
 use Rattle.grid.proofs.Checked.{inside_accepted}
-use Rattle.numbering.specs.Calls.{KeyOf, KeyAnswer, beside, no_axis, NeighbourAnswer}
+use Rattle.numbering.specs.Calls.{KeyOf, KeyAnswer, axis_refusal, beside, no_axis, NeighbourAnswer}
 use Rattle.numbering.specs.Faces.{Moves, Leads}
 use Rattle.numbering.specs.Meaning.{Meaning, OneKey, side, size}
 
@@ -25,13 +25,16 @@ unrefused : (below none : Bool) (o : Option ℕ) (key axis y : ℕ) → below �
 unrefused below none o key axis y eb en eo =
     cond-true below _ _ eb ∙ cond-false none _ _ en ∙ ap (λ (p : Option ℕ). elim p as (λ _. Option Refusal) [ Some x ↦ None | None ↦ Some (NoNeighbour axis) ]) eo
 
-module _ (m : Meaning) (law : OneKey m) (key : ℕ) (s : Step) (below : key < size m) (first : 1 ≤ s.axis) (last : s.axis ≤ m.axes) where
-  a : ℕ
-  a = s.axis - 1
+module _ (m : Meaning) (law : OneKey m) (key : ℕ) (s : Step) (below : key < size m) (there : None ≡ axis_refusal m s.axis) where
+  first : 1 ≤ s.axis
+  first = grind (arith, nat_tests)
 
-  pub neighbour_found : (y : ℕ) (after : List ℕ) (r : Result ℕ Refusal) → Some y ≡ beside (side m) s.direction (get_or (m.cell key) (s.axis - 1) 0)
-      → after ≡ set (m.cell key) (s.axis - 1) y → KeyAnswer m after r → NeighbourAnswer m key s r
-  neighbour_found y after r e w k =
+  last : s.axis ≤ m.axes
+  last = grind (arith, nat_tests)
+
+  pub neighbour_found : (v : List ℕ) (o : Option ℕ) (y : ℕ) (r : Result ℕ Refusal) → v ≡ m.cell key
+      → o ≡ beside (side m) s.direction (get_or v (s.axis - 1) 0) → o ≡ Some y → KeyAnswer m (set v (s.axis - 1) y) r → NeighbourAnswer m key s r
+  neighbour_found v o y r is asked found k =
       record {
         refused =
             answered.refused ∙ inside_accepted m.axes m.order moved inside
@@ -39,6 +42,9 @@ module _ (m : Meaning) (law : OneKey m) (key : ℕ) (s : Step) (below : key < si
         neighbour = IfOk-weaker r (KeyOf m moved) _ (λ c q. (q.0, subst (λ v. Leads m.axes s (m.cell key) v) (sym q.1) leads)) answered.key;
       }
     where
+      e : Some y ≡ beside (side m) s.direction (get_or (m.cell key) (s.axis - 1) 0)
+      e = sym found ∙ rw is at asked
+
       i : ℕ
       i = s.axis - 1
 
@@ -49,10 +55,10 @@ module _ (m : Meaning) (law : OneKey m) (key : ℕ) (s : Step) (below : key < si
       g = law.inside key below
 
       within : i < m.axes
-      within = omega arith
+      within = omega (arith, first, last)
 
       in_list : i < length (m.cell key)
-      in_list = omega (arith, g.long)
+      in_list = omega (arith, within, g.long)
 
       b : (y < side m) × Moves s.direction (get_or (m.cell key) i 0) y
       b = beside_moves (side m) s.direction (get_or (m.cell key) i 0) y (g.small i within) e
@@ -78,4 +84,4 @@ module _ (m : Meaning) (law : OneKey m) (key : ℕ) (s : Step) (below : key < si
           }
 
       answered : KeyAnswer m moved r
-      answered = subst (λ v. KeyAnswer m v r) w k
+      answered = rw is at k

@@ -1,3 +1,2 @@
 pub mod Beside
-pub mod OneStep
 pub mod Piled

@@ -6,10 +6,10 @@ use Rattle.std.proofs.lemmas.Bool.Decides.{nat_tests}
 use Rattle.grid.specs.declared.step.Step.{Step}
 use Rattle.grid.specs.Grids.{grid_side, InGrid}
 use Rattle.arithmetic.proofs.Lists.{same_members}
-use Rattle.numbering.specs.Faces.{Moves, Leads}
+use Rattle.numbering.specs.Faces.{Moves}
 use Rattle.numbering.specs.Meaning.{Meaning, CellsTogether, side}
 use Rattle.numbering.specs.Turnings.{partner, exchange_cell}
-use Rattle.numbering.specs.Turned.{Turns}
+use Rattle.numbering.specs.Turned.{Turns, Carries}
 
 partner_lt : (n i j a : ℕ) → a < n → partner n i j a < n
 partner_lt n i j a h = grind (arith, nat_tests)
@@ -94,8 +94,7 @@ module _ (m : Meaning) (i j : ℕ) where
   pub exchange_turns : Turns m (exchange_cell i j)
   exchange_turns = record { keeps = keeps; twice = twice; blocks = blocks }
 
-  pub exchange_carries : (s : Step) (u v : List ℕ) → InGrid m.axes m.order u → InGrid m.axes m.order v
-      → Leads m.axes s u v → Leads m.axes (exchange_step m.axes i j s) (exchange_cell i j u) (exchange_cell i j v)
+  pub exchange_carries : Carries m (exchange_cell i j) (exchange_step m.axes i j)
   exchange_carries s u v gu gv l =
       record {
         first = omega arith;

@@ -9,13 +9,10 @@ use Rattle.grid.specs.Grids.{grid_side, InGrid}
 use Rattle.grid.specs.Steps.{opposite}
 use Rattle.arithmetic.proofs.Complements.{complements}
 use Rattle.arithmetic.proofs.Lists.{same_members}
-use Rattle.numbering.specs.Faces.{Moves, Leads}
+use Rattle.numbering.specs.Faces.{Moves}
 use Rattle.numbering.specs.Meaning.{Meaning, CellsTogether, side}
 use Rattle.numbering.specs.Turnings.{mirror_cell}
-use Rattle.numbering.specs.Turned.{Turns}
-
-two_pos : 0 < 2
-two_pos = omega arith
+use Rattle.numbering.specs.Turned.{Turns, Carries}
 
 -- the coordinates of a mirrored cell
 module _ (s i : ℕ) (v : List ℕ) where
@@ -27,7 +24,7 @@ module _ (s i : ℕ) (v : List ℕ) where
 
 -- a complement below a power, at quotients by a smaller one
 coordinates : (k j x y : ℕ) → j ≤ k → x < 2 ^ k → y < 2 ^ k → x / 2 ^ j ≡ y / 2 ^ j → (2 ^ k - 1 - x) / 2 ^ j ≡ (2 ^ k - 1 - y) / 2 ^ j
-coordinates k j x y = let c = complements 2 two_pos 1 k j x y in simp one-mul at c
+coordinates k j x y = let c = complements 2 (omega arith) 1 k j x y in simp one-mul at c
 
 -- the step between the mirrored cells
 abbrev pub mirror_step : ℕ → Step → Step
@@ -84,8 +81,7 @@ module _ (m : Meaning) (i : ℕ) where
   pub mirror_turns : Turns m (mirror_cell (side m) i)
   mirror_turns = record { keeps = keeps; twice = twice; blocks = blocks }
 
-  pub mirror_carries : (s : Step) (u v : List ℕ) → InGrid m.axes m.order u → InGrid m.axes m.order v
-      → Leads m.axes s u v → Leads m.axes (mirror_step i s) (mirror_cell (side m) i u) (mirror_cell (side m) i v)
+  pub mirror_carries : Carries m (mirror_cell (side m) i) (mirror_step i)
   mirror_carries s u v gu gv l =
       record {
         first = l.first;

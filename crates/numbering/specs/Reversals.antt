@@ -11,11 +11,8 @@ use Rattle.numbering.specs.Faces.{Moves, Leads, FaceToFace}
 use Rattle.numbering.specs.Meaning.{Meaning, OneKey, Nesting, KeysTogether, size}
 use Rattle.numbering.specs.Turnings.{reversed}
 
-two_pos : 0 < 2
-two_pos = omega arith
-
 -- the complement below n
-complement : (n c : ℕ) → c < n → (n - 1 - c < n) × (n - 1 - (n - 1 - c) ≡ c)
+pub complement : (n c : ℕ) → c < n → (n - 1 - c < n) × (n - 1 - (n - 1 - c) ≡ c)
 complement n c h = (omega arith, omega arith)
 
 module _ (m : Meaning) where
@@ -26,7 +23,7 @@ module _ (m : Meaning) where
   again c h = (complement (size m) c h).1
 
   together : (j c d : ℕ) → j ≤ m.order → c < size m → d < size m → KeysTogether m j c d → KeysTogether m j (size m - 1 - c) (size m - 1 - d)
-  together j c d h hc hd e = complements 2 two_pos m.axes m.order j c d h hc hd e
+  together j c d h hc hd e = complements 2 (omega arith) m.axes m.order j c d h hc hd e
 
   pub reversed_onekey : OneKey m → OneKey (reversed m)
   reversed_onekey law =

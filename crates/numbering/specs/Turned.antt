@@ -19,6 +19,10 @@ pub record Turns (m : Meaning) (f : List ℕ → List ℕ) : Type 0 where
   pub blocks : (j : ℕ) (u v : List ℕ) → j ≤ m.order → InGrid m.axes m.order u → InGrid m.axes m.order v
       → CellsTogether m j u v → CellsTogether m j (f u) (f v)
 
+-- f carries each step to another one
+abbrev pub Carries : Meaning → (List ℕ → List ℕ) → (Step → Step) → Type 0
+Carries m f carry = (s : Step) (u v : List ℕ) → InGrid m.axes m.order u → InGrid m.axes m.order v → Leads m.axes s u v → Leads m.axes (carry s) (f u) (f v)
+
 module _ (m : Meaning) (law : OneKey m) (f : List ℕ → List ℕ) (t : Turns m f) where
   pub turned_onekey : OneKey (turned f m)
   turned_onekey =
@@ -49,9 +53,7 @@ module _ (m : Meaning) (law : OneKey m) (f : List ℕ → List ℕ) (t : Turns m
         key = IfOk-weaker r (KeyOf m (f v)) (KeyOf (turned f m) v) (λ c q. (q.0, ap f q.1 ∙ t.twice v g)) fits.key;
       }
 
-  -- f carries each step to another one
-  module _ (carry : Step → Step)
-      (carries : (s : Step) (u v : List ℕ) → InGrid m.axes m.order u → InGrid m.axes m.order v → Leads m.axes s u v → Leads m.axes (carry s) (f u) (f v)) where
+  module _ (carry : Step → Step) (carries : Carries m f carry) where
     carried : (c : ℕ) (s : Step) → c + 1 < size m → Leads m.axes s (m.cell c) (m.cell (c + 1)) → Leads m.axes (carry s) (f (m.cell c)) (f (m.cell (c + 1)))
     carried c s h l = carries s (m.cell c) (m.cell (c + 1)) (law.inside c (omega arith)) (law.inside (c + 1) h) l
 

@@ -8,14 +8,14 @@ mod numbering;
 mod unbroken;
 // The turning that runs through the keys backwards.
 mod reversal;
+// What the turnings share that change each cell.
+mod turned;
 // The turning that mirrors one axis.
 mod mirror;
-// Its calls.
-mod mirroring;
 // The turning that exchanges two axes.
 mod exchange;
-// Its calls.
-mod exchanging;
+// Whether there is such an axis.
+mod axes;
 // The key of the cell beside a key's.
 mod neighbours;
 // What every pile of turnings keeps, and what it means.

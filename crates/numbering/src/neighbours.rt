@@ -1,6 +1,7 @@
 ghost use Rattle.std.specs.Prelude.{◌≡◌, ◌<◌};
 ghost use Rattle.numbering.specs.Calls.{NeighbourAnswer, beside};
 
+use crate::axes::check_axis;
 use crate::numbering::Numbering;
 use grid::{Direction, Refusal, Step};
 
@@ -9,17 +10,13 @@ pub fn neighbour<N: Numbering>(numbering: &N, key: u64, step: Step) -> Result<u6
     ensures { NeighbourAnswer (N.Numbering.meaning numbering.now) key step result }
 {
     let grid = numbering.grid();
+    // In eight places of its own, since no call of a numbering asks for memory.
     let mut places = [0; 8];
     let cell = &mut places[0..grid.axes() as usize];
     numbering.cell_of(key, cell)?;
-    if step.axis == 0 || step.axis > grid.axes() {
-        return Err(Refusal::NoAxis { axis: step.axis });
-    }
-    let place = (step.axis - 1) as usize;
-    let Some(x) = moved(grid.side(), step.direction, cell[place]) else {
-        return Err(Refusal::NoNeighbour { axis: step.axis });
-    };
-    cell[place] = x;
+    check_axis(numbering, step.axis)?;
+    let x = &mut cell[(step.axis - 1) as usize];
+    *x = moved(grid.side(), step.direction, *x).ok_or(Refusal::NoNeighbour { axis: step.axis })?;
     numbering.key_of(cell)
 }
 

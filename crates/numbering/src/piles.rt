@@ -18,7 +18,7 @@ pub fn cell_under<N: Numbering>(
     key: u64,
     cell: &mut [u32],
 ) -> Result<(), Refusal>
-    ensures answer { CellAnswer (piled (Reverse ∷ MirrorOn pile.now.inner.axis ∷ ExchangeOf pile.now.inner.inner.first pile.now.inner.inner.second ∷ []) (N.Numbering.meaning pile.now.inner.inner.inner)) key cell.old result cell.new }
+    ensures answer { CellAnswer (piled (Reverse ∷ MirrorOn pile.now.inner.turn.axis ∷ ExchangeOf pile.now.inner.inner.turn.first pile.now.inner.inner.turn.second ∷ []) (N.Numbering.meaning pile.now.inner.inner.inner)) key cell.old result cell.new }
     ensures lawful { (ts : List Turning) → Lawful (piled ts (N.Numbering.meaning pile.now.inner.inner.inner)) }
     ensures undone { (ts : List Turning) → Undone (N.Numbering.meaning pile.now.inner.inner.inner) ts }
 {
@@ -31,7 +31,7 @@ pub fn step_under<N: Unbroken>(
     pile: &Reversal<Mirror<Exchange<N>>>,
     key: u64,
 ) -> Result<Step, Refusal>
-    ensures answer { StepAnswer (piled (Reverse ∷ MirrorOn pile.now.inner.axis ∷ ExchangeOf pile.now.inner.inner.first pile.now.inner.inner.second ∷ []) (N.Numbering.meaning pile.now.inner.inner.inner)) key result }
+    ensures answer { StepAnswer (piled (Reverse ∷ MirrorOn pile.now.inner.turn.axis ∷ ExchangeOf pile.now.inner.inner.turn.first pile.now.inner.inner.turn.second ∷ []) (N.Numbering.meaning pile.now.inner.inner.inner)) key result }
     ensures joined { (ts : List Turning) → FaceToFace (piled ts (N.Numbering.meaning pile.now.inner.inner.inner)) }
 {
     pile.step(key)

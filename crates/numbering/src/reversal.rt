@@ -23,8 +23,7 @@ impl<N: Numbering> Reversal<N> {
     pub fn into_inner(self) -> N
         ensures { result ≡ self.inner }
     {
-        let Reversal { inner } = self;
-        inner
+        self.inner
     }
 }
 
@@ -68,8 +67,8 @@ impl<N: Unbroken> Unbroken for Reversal<N> {
         }
         let step = self.inner.step(size - 2 - key)?;
         Ok(Step {
-            axis: step.axis,
             direction: step.direction.opposite(),
+            ..step
         })
     }
 }
