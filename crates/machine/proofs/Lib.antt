@@ -1,5 +1,3 @@
-pub mod Faced
-pub mod Crossing
-pub mod Unbroken
 pub mod BitRule
 mod Along
+mod Consecutive

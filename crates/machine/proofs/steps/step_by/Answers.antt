@@ -1,7 +1,7 @@
 use Rattle.std.proofs.Common.{◌≡◌, ◌+◌, ◌<◌, ◌∙◌, ap₂, arith}
 use Rattle.grid.specs.Grids.{grid_size}
 use Rattle.machine.specs.Machines.{keys}
-use Rattle.machine.proofs.Unbroken.{consecutive}
+use Rattle.machine.proofs.Consecutive.{consecutive}
 use Rattle.machine.proofs.steps.step_by.Goals as goal
 
 pub step_between-requires : goal.step_between-requires

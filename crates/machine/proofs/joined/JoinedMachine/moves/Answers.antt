@@ -1,6 +1,6 @@
 use Rattle.std.proofs.Common.{◌-◌, ap, ◌∙◌, ap₂}
 use Rattle.grid.specs.Grids.{grid_size}
-use Rattle.machine.proofs.Unbroken.{always_unbroken}
+use Rattle.machine.specs.Unbroken.{always_unbroken}
 use Rattle.machine.proofs.joined.JoinedMachine.moves.Goals as goal
 
 pub returns : goal.returns
