@@ -1,3 +1,4 @@
 pub mod BitRule
 mod Along
 mod Consecutive
+mod StepAt

@@ -12,3 +12,4 @@ pub mod Faced
 pub mod Crossing
 pub mod Unbroken
 pub mod Curves
+pub mod Followed
