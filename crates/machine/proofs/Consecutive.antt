@@ -1,5 +1,5 @@
 -- Two lists whose first places are consecutive cells.
-use Rattle.std.proofs.Common.{◌≡◌, ℕ, ◌+◌, ◌<◌, List, length, take, sym, ap, ◌∙◌, subst, arith}
+use Rattle.std.proofs.Common.{◌≡◌, ℕ, ◌+◌, ◌<◌, List, length, take, ap, ◌∙◌, arith}
 use Rattle.numbering.specs.Faces.{ShareFace, FaceToFace}
 use Rattle.numbering.specs.Meaning.{Meaning, OneKey, size}
 

@@ -1,5 +1,5 @@
 -- A machine that keeps the rules gives an unbroken numbering, at every order and from every state.
-use Rattle.std.specs.Prelude.{◌≡◌, ℕ, suc, ◌+◌, ◌-◌, ◌<◌, T, ◌⊎◌, slice_index}
+use Rattle.std.specs.Prelude.{◌≡◌, ℕ, suc, ◌+◌, ◌-◌, ◌<◌, ◌⊎◌, slice_index}
 use Rattle.std.proofs.Common.{sym, ◌∙◌, subst, subst₂, inl, inr, add-one, arith}
 use Rattle.grid.specs.declared.step.Direction.{Direction}
 use Rattle.grid.specs.declared.step.Direction.TheVariants.{Up, Down}

@@ -1,8 +1,6 @@
-use Rattle.std.proofs.Common.{◌≡◌, ℕ, ◌≢◌, Some, subst, sym, rules}
+use Rattle.std.proofs.Common.{◌≡◌, ℕ, ◌≢◌, Some, rules}
 use Rattle.std.proofs.lemmas.Iterator.{YieldsList-from_slice, YieldsList-from_zip, IsFirst-from_position}
 use borrow.Author.Tests.{tests}
-use Rattle.grid.specs.declared.step.Direction.{Direction}
-use Rattle.numbering.specs.Faces.{Leads}
 use Rattle.machine.proofs.StepAt.{differ_at, leads_up, leads_down}
 use Rattle.machine.proofs.steps.step_between.Goals.{then-here-place, else-here-place}
 use Rattle.machine.proofs.steps.step_between.Goals as goal

@@ -1,4 +1,4 @@
-use Rattle.std.proofs.Common.{ℕ, ◌+◌, ◌<◌, ◌∙◌, rules}
+use Rattle.std.proofs.Common.{◌+◌, ◌<◌, ◌∙◌, rules}
 use Rattle.numbering.specs.Meaning.{size}
 use Rattle.machine.specs.Followed.{meaning_of}
 use Rattle.machine.specs.Laws.{one_key}
