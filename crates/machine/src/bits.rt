@@ -47,6 +47,7 @@ pub(crate) fn gather(cell: &[u32], place: u32) -> u32
     ensures bits { (i : ℕ) → i < length cell.now → point_at 2 (length cell.now) result i ≡ slice_index cell.now i / 2 ^ place % 2 }
 {
     let mut point = 0;
+    // By a loop: that the point fits its type depends on how many coordinates went before, which a fold's closure does not know.
     for x in cell {
         point = point * 2 + bit(*x, place);
     }
