@@ -18,19 +18,15 @@ mod room;
 mod numbered;
 // The diagram, written to lists.
 mod writing;
-// The reckoned numbering: making and setting one.
+// The reckoned numbering.
 mod reckoned;
-// The machine that it follows.
-mod reckoned_machine;
-// Its calls.
-mod reckoned_numbering;
 // Two axes: the published algorithm.
 mod plane;
 
 pub use entry::Entry;
 pub use pair::Pair;
 pub use plane::plane_cell;
-pub use reckoned::Reckoned;
+pub use reckoned::{HilbertRule, Reckoned};
 pub use room::{DiagramRoom, diagram_room};
 pub use sequence::write_x2;
 pub use writing::write_diagram;

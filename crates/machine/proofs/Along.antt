@@ -1,6 +1,6 @@
 -- Following a machine digit by digit: what stands after some digits, from a key to its cell and from a cell to its key.
 use Rattle.std.proofs.Common.{◌≡◌, ℕ, zero, suc, ◌+◌, ◌-◌, ◌*◌, ◌/◌, ◌%◌, ◌^◌, ◌<◌, ◌≤◌, T, List, length, get_or, replicate, sym, ap, ◌∙◌, subst, ap₂, subst₂, add-zero, add_assoc, mod-lt, mod-eq_of_lt, mul_assoc, mul_comm, add-mul, mul-le-mul_left, pow-suc, mul-zero, div-add-mod', zero-add, zero-mul, mul-one, div-one, arith, pow_mono}
-use native.Mathlib.Nat.{div-div-eq-div-mul, div-eq_of_lt, pow-zero, pow-le-pow_right}
+use native.Mathlib.Nat.{div-div-eq-div-mul, pow-zero, pow-le-pow_right}
 use lib.Arith.{digits_lt, mod-mul}
 use lib.ListN.{length-replicate, get_or-replicate}
 use Rattle.arithmetic.proofs.Powers.{power_pos, times}
@@ -21,12 +21,6 @@ place_back b x k c =
     ap₂ (λ (y z : ℕ). y * z + (x / b ^ k % b * b ^ k + c)) (ap (λ (y : ℕ). x / y) (pow-suc b k) ∙ sym (div-div-eq-div-mul x (b ^ k) b)) (pow-suc b k ∙ mul_comm (b ^ k) b)
     ∙ sym (regroup (x / b ^ k / b) b (x / b ^ k % b) (b ^ k) c)
     ∙ ap (λ (y : ℕ). y * b ^ k + c) (div-add-mod' (x / b ^ k) b)
-
--- a number of axes, told twice, and fewer digits than the order has
-pub bits_left : {axes n k left : ℕ} → axes ≡ n → n * k ≤ 60 → left ≤ k → axes * left ≤ 60
-bits_left {axes} {n} {k} {left} e h l =
-    let m : n * left ≤ n * k = mul-le-mul_left n l in
-    subst (λ (x : ℕ). x * left ≤ 60) (sym e) (omega arith)
 
 pub below_31 : {x k : ℕ} → k ≤ 30 → x < 2 ^ k → x < 2 ^ 31
 below_31 {x} {k} h l = let p : 2 ^ k ≤ 2 ^ 30 = pow_mono h in omega arith
@@ -159,16 +153,6 @@ module _ {b : ℕ} (pos : 0 < b) {S : Type 0} {M : Machine b S} {order : ℕ} {s
       (going_step pos M order s exact key (left - 1) st d p list after (ed ∙ ap (λ (n : ℕ). key / b ^ (n * (left - 1)) % b ^ n) en) ep same
       (λ i li. put i (omega (arith, G.long)) ∙ ap (λ (n : ℕ). get_or list i 0 * b + point_at b n p i) G.long)
       (subst (λ (x : ℕ). Going M order s key x st list) (one_less left more) G))
-
-  pub reading_first : {list : List ℕ} {left : ℕ} {st : S} → T (M.is_state s) → length list ≡ M.n → ((i : ℕ) → i < M.n → get_or list i 0 < b ^ order)
-      → left ≡ order → st ≡ s → Reading M order s list left st 0
-  reading_first {list} {left} {st} l long h el es =
-      subst₂ (λ (x : ℕ) (y : S). Reading M order s list x y 0) (sym el) (sym es)
-      (reading pos M order s l (keys_pos pos M (order - order)) long
-      (λ r i hr li.
-      ap (λ (x : ℕ). coord M order s x i) (ap (λ (x : ℕ). x + r) (zero-mul (keys M order)) ∙ zero-add r)
-      ∙ sym (zero-add (coord M order s r i))
-      ∙ ap (λ (x : ℕ). x + coord M order s r i) (sym (zero-mul (b ^ order)) ∙ ap (λ (x : ℕ). x * b ^ order) (sym (div-eq_of_lt (h i li))))))
 
   pub reading_fits : {list : List ℕ} {left key axes d : ℕ} {st : S} → Reading M order s list left st key → 0 < left → left ≤ order → axes ≡ M.n → d < b ^ M.n
       → key * b ^ axes + d < keys M order

@@ -1,5 +1,4 @@
-pub mod Faced
-pub mod Crossing
-pub mod Unbroken
 pub mod BitRule
 mod Along
+mod Consecutive
+mod StepAt

@@ -8,3 +8,8 @@ pub mod Listed
 pub mod Digits
 pub mod Told
 pub mod ZExact
+pub mod Faced
+pub mod Crossing
+pub mod Unbroken
+pub mod Curves
+pub mod Followed

@@ -34,8 +34,8 @@ pub(crate) fn append(cell: &mut [u32], point: u32)
     ensures { (i : ℕ) → i < length cell.old → slice_index cell.new i ≡ slice_index cell.old i * 2 + point_at 2 (length cell.old) point i }
 {
     let axes = cell.len();
-    for i in 0..axes {
-        cell[i] = cell[i] * 2 + bit(point, (axes - 1 - i) as u32);
+    for (i, x) in cell.iter_mut().enumerate() {
+        *x = *x * 2 + bit(point, (axes - 1 - i) as u32);
     }
 }
 
@@ -47,6 +47,7 @@ pub(crate) fn gather(cell: &[u32], place: u32) -> u32
     ensures bits { (i : ℕ) → i < length cell.now → point_at 2 (length cell.now) result i ≡ slice_index cell.now i / 2 ^ place % 2 }
 {
     let mut point = 0;
+    // By a loop: that the point fits its type depends on how many coordinates went before, which a fold's closure does not know.
     for x in cell {
         point = point * 2 + bit(*x, place);
     }

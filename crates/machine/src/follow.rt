@@ -1,15 +1,17 @@
 ghost use Rattle.std.specs.Prelude.{◌≡◌, ◌<◌, length};
-ghost use Rattle.grid.specs.Grids.{InGrid, grid_size};
-ghost use Rattle.machine.specs.Means.{cell_from};
+ghost use Rattle.grid.specs.Grids.{InGrid};
+ghost use Rattle.numbering.specs.Calls.{KeyOf};
+ghost use Rattle.numbering.specs.Meaning.{size};
+ghost use Rattle.machine.specs.Followed.{meaning_of};
 
 use crate::bits::{append, digit_of, gather, with_digit};
 use crate::machine::Machine;
 
 // Fills the list with the cell of a key: each digit is one more bit of every coordinate.
 pub(crate) fn to_cell<M: Machine>(m: &M, key: u64, list: &mut [u32])
-    requires small { key < grid_size (M.Machine.model m.now).n (M.Machine.depth m.now) }
-    requires long { length list.old ≡ (M.Machine.model m.now).n }
-    ensures { list.new ≡ cell_from (M.Machine.model m.now) (M.Machine.depth m.now) (M.Machine.begin m.now) key }
+    requires small { key < size (meaning_of M.Machine m.now) }
+    requires long { length list.old ≡ (meaning_of M.Machine m.now).axes }
+    ensures { list.new ≡ (meaning_of M.Machine m.now).cell key }
 {
     let grid = m.grid();
     list.fill(0);
@@ -23,9 +25,8 @@ pub(crate) fn to_cell<M: Machine>(m: &M, key: u64, list: &mut [u32])
 
 // The key of a cell: one bit of every coordinate is an n-point, and so a digit.
 pub(crate) fn to_key<M: Machine>(m: &M, list: &[u32]) -> u64
-    requires { InGrid (M.Machine.model m.now).n (M.Machine.depth m.now) list.now }
-    ensures small { result < grid_size (M.Machine.model m.now).n (M.Machine.depth m.now) }
-    ensures is { cell_from (M.Machine.model m.now) (M.Machine.depth m.now) (M.Machine.begin m.now) result ≡ list.now }
+    requires { let m' = meaning_of M.Machine m.now in InGrid m'.axes m'.order list.now }
+    ensures { KeyOf (meaning_of M.Machine m.now) list.now result }
 {
     let grid = m.grid();
     let mut key = 0;

@@ -14,15 +14,17 @@ mod calls;
 mod joined;
 // Their steps.
 mod steps;
-// The Z numbering: making and setting one.
+// The rules by which a digit leads on, for every number of axes.
+mod curve_rule;
+// The numbering by a rule.
+mod curve;
+// The Z numbering.
 mod z_order;
-// The machine that it follows.
-mod z_machine;
-// Its calls.
-mod z_numbering;
 
 pub use calls::{cell_by, key_by};
+pub use curve::Curve;
+pub use curve_rule::{CurveRule, JoinedRule};
 pub use joined::JoinedMachine;
 pub use machine::Machine;
 pub use steps::step_by;
-pub use z_order::ZOrder;
+pub use z_order::{ZOrder, ZRule};

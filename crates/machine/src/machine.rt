@@ -24,6 +24,8 @@ pub trait Machine {
     fn first(&self) -> Self::State
         ensures { result ≡ begin self.now };
 
+    // The next three require a state and a digit of this machine: which there are depends on `self`, so no type can say it.
+
     // The n-point of a digit.
     fn point(&self, state: Self::State, digit: u32) -> u32
         requires state { T ((model self.now).is_state state) }

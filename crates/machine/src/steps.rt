@@ -1,15 +1,17 @@
-ghost use Rattle.std.specs.Prelude.{◌≡◌, ◌≤◌, length};
+ghost use Rattle.std.specs.Prelude.{◌≡◌, ◌<◌, ◌≤◌, length, take};
 ghost use Rattle.numbering.specs.Calls.{StepAnswer};
 ghost use Rattle.numbering.specs.Faces.{ShareFace, Leads};
-ghost use Rattle.machine.specs.Means.{means};
+ghost use Rattle.numbering.specs.Meaning.{size};
+ghost use Rattle.machine.specs.Followed.{meaning_of};
 
 use crate::follow::to_cell;
 use crate::joined::JoinedMachine;
+use crate::machine::Machine;
 use grid::{Direction, Refusal, Step};
 
 // The step from the cell of a key to that of the next one.
 pub fn step_by<M: JoinedMachine>(m: &M, key: u64) -> Result<Step, Refusal>
-    ensures { StepAnswer (means (M.Machine.model m.now) (M.Machine.depth m.now) (M.Machine.begin m.now)) key result }
+    ensures { StepAnswer (meaning_of M.Machine m.now) key result }
 {
     let grid = m.grid();
     if key >= grid.size() {
@@ -18,13 +20,20 @@ pub fn step_by<M: JoinedMachine>(m: &M, key: u64) -> Result<Step, Refusal>
     if key + 1 == grid.size() {
         return Err(Refusal::LastKey { key });
     }
+    let axes = grid.axes() as usize;
+    let here = places_of(m, key);
+    let there = places_of(m, key + 1);
+    Ok(step_between(&here[..axes], &there[..axes]))
+}
+
+// The cell of a key as the first of eight places, so that nothing is allocated.
+fn places_of<M: Machine>(m: &M, key: u64) -> [u32; 8]
+    requires { key < size (meaning_of M.Machine m.now) }
+    ensures { let m' = meaning_of M.Machine m.now in take m'.axes result ≡ m'.cell key }
+{
     let mut places = [0; 8];
-    let here = &mut places[0..grid.axes() as usize];
-    to_cell(m, key, here);
-    let mut next_places = [0; 8];
-    let there = &mut next_places[0..grid.axes() as usize];
-    to_cell(m, key + 1, there);
-    Ok(step_between(here, there))
+    to_cell(m, key, &mut places[..m.grid().axes() as usize]);
+    places
 }
 
 // The step between two cells that share a face.
@@ -34,20 +43,16 @@ fn step_between(here: &[u32], there: &[u32]) -> Step
     requires face { ShareFace (length here.now) here.now there.now }
     ensures { Leads (length here.now) result here.now there.now }
 {
-    for i in 0..here.len() {
-        let axis = i as u32 + 1;
-        if here[i] < there[i] {
-            return Step {
-                axis,
-                direction: Direction::Up,
-            };
-        }
-        if here[i] > there[i] {
-            return Step {
-                axis,
-                direction: Direction::Down,
-            };
-        }
+    let Some(place) = here.iter().zip(there).position(|(a, b)| a != b) else {
+        unreachable()
+    };
+    let direction = if here[place] < there[place] {
+        Direction::Up
+    } else {
+        Direction::Down
+    };
+    Step {
+        axis: place as u32 + 1,
+        direction,
     }
-    unreachable()
 }

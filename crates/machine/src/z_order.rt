@@ -1,33 +1,41 @@
-ghost use Rattle.std.specs.Prelude.{◌≡◌};
-ghost use Rattle.grid.specs.Answers.{refusal, unless};
-ghost use Rattle.grid.specs.Grids.{grid_refusal};
+ghost use Rattle.std.specs.Prelude.{refl};
+ghost use Rattle.machine.specs.Z.{z_machine};
+ghost use Rattle.machine.specs.ZExact.{z_exact};
 
-use grid::{Grid, Refusal};
+use crate::curve::Curve;
+use crate::curve_rule::CurveRule;
+use grid::AxisCount;
+
+// One state, in which each digit is its own n-point.
+pub struct ZRule;
 
 // The Z numbering: a key has the bits of the coordinates by turns, axis 1 first, most significant first. It is not unbroken.
-#[derive(Drop)]
-pub struct ZOrder {
-    pub(crate) grid: Grid,
-}
+pub type ZOrder = Curve<ZRule>;
 
-impl ZOrder {
-    // At first of two axes and order 1.
-    pub fn new() -> ZOrder
-        ensures axes { result.grid.axes ≡ 2 }
-        ensures order { result.grid.order ≡ 1 }
-    {
-        ZOrder {
-            grid: Grid::new(2, 1).unwrap(),
-        }
+impl CurveRule for ZRule {
+    type State = ();
+
+    ghost model = { z_machine };
+
+    ghost begin = { tt };
+
+    ghost same_axes = { λ _. refl };
+
+    ghost exact = { λ n _ _. z_exact n };
+
+    ghost begins = { λ _ _ _. tt };
+
+    fn first() {}
+
+    fn point(_axes: AxisCount, _state: (), digit: u32) -> u32 {
+        digit
     }
 
-    // Sets the axes and the order; refused, both are as they were.
-    pub fn set(&mut self, axes: u32, order: u32) -> Result<(), Refusal>
-        ensures refused { refusal result ≡ grid_refusal axes order }
-        ensures axes { self.new.grid.axes ≡ unless (grid_refusal axes order) axes self.old.grid.axes }
-        ensures order { self.new.grid.order ≡ unless (grid_refusal axes order) order self.old.grid.order }
-    {
-        self.grid = Grid::new(axes, order)?;
-        Ok(())
+    fn digit(_axes: AxisCount, _state: (), point: u32) -> u32 {
+        point
+    }
+
+    fn next(_axes: AxisCount, state: (), _digit: u32) {
+        state
     }
 }

@@ -6,7 +6,7 @@ use Rattle.machine.specs.Machines.{Exact}
 use Rattle.machine.specs.Rules.{Rules}
 use Rattle.machine.proofs.BitRule.{bit_rules}
 use Rattle.machine.specs.Laws.{always_lawful}
-use Rattle.machine.proofs.Unbroken.{always_unbroken}
+use Rattle.machine.specs.Unbroken.{always_unbroken}
 use Rattle.table.specs.Checks.{Numbers}
 use Rattle.table.specs.Rules.{IsTable}
 use Rattle.table.specs.Tables.{next_at_digit, table_machine}

@@ -1,7 +1,7 @@
 use Rattle.std.proofs.Common.{ℕ, replicate, ap, ◌∙◌, arith}
-use Rattle.grid.proofs.Limited.{half_order}
 use Rattle.machine.specs.Points.{two_pos}
-use Rattle.machine.proofs.Along.{bits_left, below_31, going_first, going_small, going_more}
+use Rattle.machine.proofs.Along.{below_31, going_first, going_small, going_more}
+use Rattle.grid.proofs.Limited.{half_order}
 use Rattle.machine.proofs.follow.to_cell.Goals as goal
 
 pub loop-left-init : goal.loop-left-init
@@ -9,18 +9,10 @@ loop-left-init g c =
     going_first two_pos (g.met.M.Machine.begins c.args.m.now) c.requires.small (cc) (cc)
     (c.fill.ensures.after (λ y e. e) ∙ ap (λ (n : ℕ). replicate n 0) c.requires.long)
 
-pub digit_of-digit-requires : goal.digit_of-digit-requires
-digit_of-digit-requires g c =
-    let l = c.grid-grid.result.limits in
-    record { axes = omega arith; bits = bits_left c.axes.ensures l.3 (omega arith) }
-
-pub append-requires : goal.append-requires
-append-requires g c =
+pub append-requires-clause-small : goal.append-requires-clause-small
+append-requires-clause-small g c i li =
     let h = half_order c.grid-grid.result.limits in
-    record {
-      few = omega (arith, c.loop-left.invariant.long, (g.met.M.Machine.limits c.args.m.now).most_axes);
-      small = λ i li. below_31 (omega (arith, c.grid-grid.ensures.order)) (going_small two_pos {key = c.args.key} c.loop-left.invariant i li);
-    }
+    below_31 (omega (arith, c.grid-grid.ensures.order)) (going_small two_pos {key = c.args.key} c.loop-left.invariant i li)
 
 pub loop-left-preserved : goal.loop-left-preserved
 loop-left-preserved g c =

@@ -1,19 +1,18 @@
-use Rattle.std.proofs.Common.{◌≡◌, ◌+◌, ◌<◌, ◌∙◌, ap₂, arith}
-use Rattle.grid.specs.Grids.{grid_size}
-use Rattle.machine.specs.Machines.{keys}
-use Rattle.machine.proofs.Unbroken.{consecutive}
+use Rattle.std.proofs.Common.{◌+◌, ◌<◌, ◌∙◌, rules}
+use Rattle.numbering.specs.Meaning.{size}
+use Rattle.machine.specs.Followed.{meaning_of}
+use Rattle.machine.specs.Laws.{one_key}
+use Rattle.machine.specs.Unbroken.{always_unbroken}
+use Rattle.machine.proofs.Consecutive.{consecutive}
 use Rattle.machine.proofs.steps.step_by.Goals as goal
 
-pub step_between-requires : goal.step_between-requires
-step_between-requires g c =
+pub step_between-requires-clause-face : goal.step_between-requires-clause-face
+step_between-requires-clause-face g c =
     let x = c.args.m.now in
+    let M = g.M.Machine in
     let met = g.met.M.Machine in
-    let M = g.M.Machine.model x in
-    let k = g.M.Machine.depth x in
-    let same = ap₂ grid_size c.grid-grid.ensures.axes c.grid-grid.ensures.order in
-    let e : c.size.result ≡ keys M k = c.size.ensures.is ∙ same in
-    let f : c.size-2.result ≡ keys M k = c.size-2.ensures.is ∙ same in
-    let below : c.args.key + 1 < keys M k = omega (arith, c.if-key-size.false, c.if-key-size-2.false) in
-    let w = consecutive M (met.exact x) (g.met.M.JoinedMachine.rules x) (met.limits x).most_axes k (g.M.Machine.begin x) (met.begins x)
-    c.args.key below c.to_cell.new.list c.to_cell-2.new.list c.to_cell.ensures c.to_cell-2.ensures in
-    record { few = w.few; same = w.same; face = w.face }
+    let below : c.args.key + 1 < size (meaning_of M x) = search rules in
+    consecutive (meaning_of M x)
+    (always_unbroken (M.model x) (met.exact x) (g.met.M.JoinedMachine.rules x) (M.depth x) (M.begin x) (met.begins x))
+    (one_key (M.model x) (met.exact x) (M.depth x) (M.begin x) (met.begins x))
+    c.args.key below (c.axes-axes.ensures ∙ c.grid-grid.ensures.axes) _ _ c.places_of-here.ensures c.places_of-there.ensures

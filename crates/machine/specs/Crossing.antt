@@ -1,12 +1,13 @@
 -- The rules put the last cell of each block beside the first of the next one.
-use Rattle.std.proofs.Common.{◌≡◌, ℕ, zero, suc, ◌+◌, ◌-◌, ◌*◌, ◌^◌, ◌<◌, T, ◌⊎◌, sym, refl, ap, ◌∙◌, ap₂, inl, inr, suc-mul, zero-mul, arith}
-use native.Mathlib.Nat.{zero-div, zero-mod}
-use lib.Arith.{mul_pred}
+use Rattle.std.specs.Prelude.{◌≡◌, ℕ, zero, suc, ◌+◌, ◌-◌, ◌*◌, ◌^◌, ◌<◌, T, ◌⊎◌, refl}
+use Rattle.std.proofs.Common.{sym, ap, ◌∙◌, ap₂, inl, inr, suc-mul, zero-mul, arith}
+use Rattle.std.proofs.Math.Nat.{zero-div, zero-mod}
+use Rattle.std.proofs.Math.Arith.{mul_pred}
 use Rattle.arithmetic.proofs.Powers.{power_pos, none_left, times, last_lt, last_split, block_size}
 use Rattle.machine.specs.Machines.{Machine, point_at, keys, coord, Exact}
 use Rattle.machine.specs.Rules.{Crosses, here, last_of, first_of, Meets, Rules}
 use Rattle.machine.specs.Digits.{keys_pos, coord_at}
-use Rattle.machine.proofs.Faced.{Across}
+use Rattle.machine.specs.Faced.{Across}
 
 -- x in each of k places
 abbrev repeated : ℕ → ℕ → ℕ → ℕ

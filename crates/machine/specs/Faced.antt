@@ -1,7 +1,8 @@
 -- Consecutive keys of a machine: if the last cell of each block shares a face with the first of the next, then every cell does with the next one.
-use Rattle.std.proofs.Common.{◌≡◌, ℕ, zero, suc, ◌+◌, ◌-◌, ◌*◌, ◌/◌, ◌%◌, ◌^◌, ◌<◌, T, ◌≢◌, ◌⊎◌, sym, ap, ◌∙◌, subst, inl, inr, add-suc, mod-lt, suc-mul, mul-zero, div-add-mod', arith}
-use native.Mathlib.Decide.{dec_lt}
-use lib.Arith.{digits_div}
+use Rattle.std.specs.Prelude.{◌≡◌, ℕ, zero, suc, ◌+◌, ◌-◌, ◌*◌, ◌/◌, ◌%◌, ◌^◌, ◌<◌, T, ◌≢◌, ◌⊎◌}
+use Rattle.std.proofs.Common.{sym, ap, ◌∙◌, subst, inl, inr, add-suc, mod-lt, suc-mul, mul-zero, div-add-mod', arith}
+use Rattle.std.proofs.Math.Decide.{dec_lt}
+use Rattle.std.proofs.Math.Arith.{digits_div}
 use Rattle.arithmetic.proofs.Powers.{none_left}
 use Rattle.machine.specs.Machines.{Machine, point_at, keys, coord, Exact}
 use Rattle.machine.specs.Digits.{keys_pos, first_lt, coord_at}

@@ -1,5 +1,6 @@
 -- A machine that keeps the rules gives an unbroken numbering, at every order and from every state.
-use Rattle.std.proofs.Common.{◌≡◌, ℕ, suc, ◌+◌, ◌-◌, ◌<◌, ◌≤◌, T, ◌⊎◌, List, length, get_or, sym, ap, ◌∙◌, subst, subst₂, inl, inr, add-one, arith}
+use Rattle.std.specs.Prelude.{◌≡◌, ℕ, suc, ◌+◌, ◌-◌, ◌<◌, ◌⊎◌, slice_index}
+use Rattle.std.proofs.Common.{sym, ◌∙◌, subst, subst₂, inl, inr, add-one, arith}
 use Rattle.grid.specs.declared.step.Direction.{Direction}
 use Rattle.grid.specs.declared.step.Direction.TheVariants.{Up, Down}
 use Rattle.numbering.specs.Faces.{Moves, Leads, ShareFace}
@@ -7,12 +8,12 @@ use Rattle.machine.specs.Machines.{Machine, keys, coord, Exact}
 use Rattle.machine.specs.Means.{cell_from, AlwaysUnbroken}
 use Rattle.machine.specs.Rules.{Rules}
 use Rattle.machine.specs.Points.{two_pos}
-use Rattle.machine.proofs.Crossing.{across}
-use Rattle.machine.proofs.Faced.{Faced, faced}
-use Rattle.machine.specs.Listed.{listed_at, listed_long}
+use Rattle.machine.specs.Crossing.{across}
+use Rattle.machine.specs.Faced.{Faced, faced}
+use Rattle.machine.specs.Listed.{listed_at}
 
 module _ {S : Type 0} (M : Machine 2 S) (k : ℕ) (s : S) (c : ℕ) (f : Faced M k s c) where
-  at : (key i : ℕ) → i < M.n → get_or (cell_from M k s key) i 0 ≡ coord M k s key i
+  at : (key i : ℕ) → i < M.n → slice_index (cell_from M k s key) i ≡ coord M k s key i
   at key i h = listed_at M.n (coord M k s key) i h
 
   leads : (d : Direction) → Moves d (coord M k s c f.place) (coord M k s (suc c) f.place) → Leads M.n (record { axis = f.place + 1; direction = d }) (cell_from M k s c) (cell_from M k s (suc c))
@@ -47,20 +48,3 @@ always_unbroken M exact rules k s l c h =
   where
     f : Faced M k s c
     f = faced two_pos M exact k (λ j _. across two_pos M exact rules j) s l c (subst (λ (x : ℕ). x < keys M k) (add-one c) h)
-
--- two lists that hold consecutive cells
-pub record Consecutive (u v : List ℕ) : Type 0 where
-  pub few : length u ≤ 8
-  pub same : length v ≡ length u
-  pub face : ShareFace (length u) u v
-
-pub consecutive : {S : Type 0} (M : Machine 2 S) → Exact M → Rules M → M.n ≤ 8 → (k : ℕ) (s : S) → T (M.is_state s) → (c : ℕ) → c + 1 < keys M k → (u v : List ℕ)
-    → u ≡ cell_from M k s c → v ≡ cell_from M k s (c + 1) → Consecutive u v
-consecutive M exact rules few k s l c h u v eu ev =
-    let lu : length u ≡ M.n = ap length eu ∙ listed_long M.n (coord M k s c) in
-    let lv : length v ≡ M.n = ap length ev ∙ listed_long M.n (coord M k s (c + 1)) in
-    record {
-      few = omega arith;
-      same = lv ∙ sym lu;
-      face = subst₂ (λ (x y : List ℕ). ShareFace (length u) x y) (sym eu) (sym ev) (subst (λ (n : ℕ). ShareFace n (cell_from M k s c) (cell_from M k s (c + 1))) (sym lu) (always_unbroken M exact rules k s l c h));
-    }
