@@ -1,3 +1,4 @@
+pub mod StateFacts
 pub mod Grow
 pub mod Published
 pub mod Known

@@ -5,9 +5,8 @@ ghost use Rattle.diagram.specs.Reckon.{origin_state};
 
 use crate::pair::Pair;
 use crate::reckoned::Reckoned;
-use crate::rows::{shift_of, start_of};
-use crate::seen::{digit_in, point_in, turned_by};
-use grid::Grid;
+use crate::state::State;
+use grid::{AxisCount, Grid};
 use machine::{JoinedMachine, Machine};
 
 impl Machine for Reckoned {
@@ -34,17 +33,18 @@ impl Machine for Reckoned {
     }
 
     fn point(&self, state: Pair, digit: u32) -> u32 {
-        point_in(self.grid.axes(), state, digit)
+        let axes = AxisCount::try_from(self.grid.axes()).unwrap();
+        State { axes, pair: state }.point(digit)
     }
 
     fn digit(&self, state: Pair, point: u32) -> u32 {
-        digit_in(self.grid.axes(), state, point)
+        let axes = AxisCount::try_from(self.grid.axes()).unwrap();
+        State { axes, pair: state }.digit(point)
     }
 
     fn next(&self, state: Pair, digit: u32) -> Pair {
-        let axes = self.grid.axes();
-        let row = digit as u64;
-        turned_by(axes, state, start_of(axes, row), shift_of(axes, row))
+        let axes = AxisCount::try_from(self.grid.axes()).unwrap();
+        State { axes, pair: state }.next(digit).pair
     }
 }
 

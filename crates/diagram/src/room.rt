@@ -3,8 +3,7 @@ ghost use Rattle.grid.specs.Answers.{refusal};
 ghost use Rattle.diagram.specs.Diagrams.{room_refusal};
 ghost use Rattle.diagram.specs.States.{most_states};
 
-use crate::numbered::digits;
-use grid::Refusal;
+use grid::{AxisCount, Refusal};
 
 // How long the lists have to be to which a diagram is written.
 #[derive(Clone, Copy, PartialEq, Eq, Debug)]
@@ -19,12 +18,11 @@ pub fn diagram_room(axes: u32) -> Result<DiagramRoom, Refusal>
     ensures states { IfOk result (λ room. room.states ≡ most_states axes) }
     ensures entries { IfOk result (λ room. room.entries ≡ most_states axes * 2 ^ axes) }
 {
-    if axes < 2 || axes > 8 {
-        return Err(Refusal::Axes { axes });
-    }
-    let states = axes as usize * digits(axes - 1) as usize;
+    let axes = AxisCount::try_from(axes)?;
+    let points = axes.points() as usize;
+    let states = axes.get() as usize * (points / 2);
     Ok(DiagramRoom {
         states,
-        entries: states * digits(axes) as usize,
+        entries: states * points,
     })
 }
