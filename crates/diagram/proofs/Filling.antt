@@ -5,7 +5,7 @@ use Rattle.std.specs.List.{Contains, ContainsAt as Has}
 use Rattle.std.proofs.lemmas.Nat.{mul-le}
 use Rattle.std.proofs.Math.Seq.{take-add}
 use Rattle.std.proofs.lemmas.List.{length-append, take_at, drop_at, drop-drop, length-take-le}
-use Rattle.std.proofs.lemmas.List.Elements.{at_from_Contains, Contains-from_at, Contains-get_or}
+use Rattle.std.proofs.lemmas.List.Elements.{at_from_Contains, Contains-from_at}
 use Rattle.arithmetic.proofs.Fronts.{Front, front_all, rest_on}
 use Rattle.grid.specs.declared.axis_count.AxisCount.{AxisCount}
 use Rattle.diagram.specs.declared.entry.Entry.{Entry}
@@ -53,9 +53,6 @@ module _ (a : AxisCount) where
 
     pub even_of : (i : ℕ) → i < length rs → Even a.count (get_or rs i origin)
     even_of i h = subst (λ (l : List Pair). Even a.count (get_or l i origin)) (sym is) ((states_distinct a.count a.least a.most).even i (omega (arith, ap length is)))
-
-    pub state_known : (i : ℕ) → i < length rs → Contains (states a.count) (get_or rs i origin)
-    state_known i h = subst (λ (l : List Pair). Contains l (get_or rs i origin)) is (Contains-get_or rs i origin h)
 
     pub row_room : (i long : ℕ) → i < length rs → length rs * 2 ^ a.count ≤ long → i * 2 ^ a.count + 2 ^ a.count ≤ long
     row_room i long h room = omega (arith, suc-mul i (2 ^ a.count), mul-le (suc i) (2 ^ a.count) (length rs) (2 ^ a.count) (omega arith) (omega arith))

@@ -167,9 +167,6 @@ module _ (n len : ℕ) (e0 out0 : List ℕ) (lo : 2 ≤ n) (hi : n ≤ 8) (hlen 
   long_inner : length (x2 (n - 1)) ≡ len
   long_inner = length_x2 (n - 1) (omega arith) (omega arith) ∙ sym hlen
 
-  pub answer_is : 2 * len ≡ 2 ^ suc n
-  answer_is = omega (arith, twofold)
-
   pub room_twice : len + len ≤ length e0
   room_twice = omega (arith, twofold)
 

@@ -62,16 +62,15 @@ module _ (n : ℕ) (lo : 2 ≤ n) (hi : n ≤ 8) where
     count_few = subst (λ (x : ℕ). x ≤ most_states n) long (few n lo hi (take count rs) G.distinct)
 
     -- the state next is looked for where its number would be noted
-    module _ (next : Pair) (e : Even n next) (b : Bool) (test : b ≡ (ltb (get_or notes (slot n next) 0) count && same_pair next (get_or rs (get_or notes (slot n next) 0) origin))) where
+    module _ (next : Pair) (e : Even n next) (b : Bool) (test : b ≡ (ltb (get_or notes (slot n next) 0) (length (take count rs)) && same_pair next (get_or (take count rs) (get_or notes (slot n next) 0) origin))) where
       place : ℕ
       place = get_or notes (slot n next) 0
 
       recognized : b ≡ true → known (take count rs) next ≡ true
       unfolding place
       recognized t =
-          let parts = and_parts (ltb place count) (same_pair next (get_or rs place origin)) (sym test ∙ t) in
-          let lt = ltb-true place count parts.0 in
-          is_known (take count rs) next place (omega (arith, long)) (at_front place lt ∙ sym (same_true next (get_or rs place origin) parts.1))
+          let parts = and_parts (ltb place (length (take count rs))) (same_pair next (get_or (take count rs) place origin)) (sym test ∙ t) in
+          is_known (take count rs) next place (ltb-true place (length (take count rs)) parts.0) (sym (same_true next (get_or (take count rs) place origin) parts.1))
 
       is_new : b ≡ false → known (take count rs) next ≡ false
       unfolding place
@@ -79,9 +78,8 @@ module _ (n : ℕ) (lo : 2 ≤ n) (hi : n ≤ 8) where
           not_known (take count rs) next
           (λ k h q.
           let here : place ≡ k = ap (λ (s : Pair). get_or notes (slot n s) 0) (sym q) ∙ G.noted k h in
-          let hk : k < count = omega (arith, long) in
-          let t = and_from (ltb place count) (same_pair next (get_or rs place origin)) (lt-ltb place count (omega (arith, here)))
-          (same_self next (get_or rs place origin) (sym (ap (λ (x : ℕ). get_or rs x origin) here ∙ sym (at_front k hk) ∙ q))) in
+          let t = and_from (ltb place (length (take count rs))) (same_pair next (get_or (take count rs) place origin)) (lt-ltb place (length (take count rs)) (omega arith))
+          (same_self next (get_or (take count rs) place origin) (sym (ap (λ (x : ℕ). get_or (take count rs) x origin) here ∙ q))) in
           let z : ◌≡◌ {A = ℕ} 0 1 = cc (test, f, t) in omega arith)
 
       module _ (f : b ≡ false) where
@@ -161,7 +159,7 @@ module _ (a : AxisCount) {rs0 rs : List Pair} {notes : List ℕ} {count : ℕ} {
     (U : Turn a.count rs0 rs notes count s p whole) (es : Even a.count s) (hp : p < 2 ^ a.count)
     {d : ℕ} (hd : d < 2 ^ a.count) (dp : point_of a.count s d ≡ p) (next : State) (ax : next.axes ≡ a) (is : next.pair ≡ next_of a.count s d)
     {place : ℕ} (at_slot : place ≡ slot next.axes.count next.pair)
-    {b : Bool} (test : b ≡ (ltb (get_or notes place 0) count && same_pair next.pair (get_or rs (get_or notes place 0) origin))) where
+    {b : Bool} (test : b ≡ (ltb (get_or notes place 0) (length (take count rs)) && same_pair next.pair (get_or (take count rs) (get_or notes place 0) origin))) where
   even_met : Even a.count next.pair
   even_met = subst (Even a.count) (sym is) (even_next a.count a.least a.most s es d hd)
 
@@ -174,8 +172,8 @@ module _ (a : AxisCount) {rs0 rs : List Pair} {notes : List ℕ} {count : ℕ} {
   place_is : place ≡ slot a.count next.pair
   place_is = at_slot ∙ ap (λ (x : AxisCount). slot x.count next.pair) ax
 
-  tested : b ≡ (ltb (get_or notes (slot a.count next.pair) 0) count && same_pair next.pair (get_or rs (get_or notes (slot a.count next.pair) 0) origin))
-  tested = test ∙ ap (λ (i : ℕ). ltb (get_or notes i 0) count && same_pair next.pair (get_or rs (get_or notes i 0) origin)) place_is
+  tested : b ≡ (ltb (get_or notes (slot a.count next.pair) 0) (length (take count rs)) && same_pair next.pair (get_or (take count rs) (get_or notes (slot a.count next.pair) 0) origin))
+  tested = test ∙ ap (λ (i : ℕ). ltb (get_or notes i 0) (length (take count rs)) && same_pair next.pair (get_or (take count rs) (get_or notes i 0) origin)) place_is
 
   pub turn_known : b ≡ true → Turn a.count rs0 rs notes count s (p + 1) whole
   turn_known t =

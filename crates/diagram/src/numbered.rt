@@ -31,14 +31,14 @@ impl Numbers {
         states[0] = State::first(axes).pair;
         let mut count = 1;
         let mut taken = 0;
-        // By index: the list grows while it is walked.
+        // By index, since the list grows while it is walked: an iterator would hold it.
         while taken < count {
             let pair = states[taken];
             let state = State { axes, pair };
             for point in 0..axes.points() {
                 let next = sequence.next(state, state.digit(point));
                 let slot = next.slot();
-                if !is_number(states, count, notes[slot] as usize, next.pair) {
+                if !is_number(&states[..count], notes[slot] as usize, next.pair) {
                     states[count] = next.pair;
                     notes[slot] = count as u16;
                     count += 1;
@@ -66,10 +66,9 @@ impl Numbers {
     }
 }
 
-// Whether the state of that number is known, and is this one.
-fn is_number(states: &[Pair], count: usize, number: usize, state: Pair) -> bool
-    requires { count ≤ length states.now }
-    ensures { result ≡ (nat_lt number count && same_pair state (slice_index_or states.now number origin)) }
+// Whether a number is that of the state.
+fn is_number(states: &[Pair], number: usize, state: Pair) -> bool
+    ensures { result ≡ (nat_lt number (length states.now) && same_pair state (slice_index_or states.now number origin)) }
 {
-    number < count && state == states[number]
+    states.get(number) == Some(&state)
 }

@@ -12,6 +12,21 @@ pub struct DiagramRoom {
     pub entries: usize,
 }
 
+impl DiagramRoom {
+    // The room for the diagram of that many axes.
+    pub(crate) fn new(axes: AxisCount) -> DiagramRoom
+        ensures states { result.states ≡ most_states axes.count }
+        ensures entries { result.entries ≡ most_states axes.count * 2 ^ axes.count }
+    {
+        let points = axes.points() as usize;
+        let states = axes.get() as usize * (points / 2);
+        DiagramRoom {
+            states,
+            entries: states * points,
+        }
+    }
+}
+
 // The room for the diagram of that many axes.
 pub fn diagram_room(axes: u32) -> Result<DiagramRoom, Refusal>
     ensures refused { refusal result ≡ room_refusal axes }
@@ -19,10 +34,5 @@ pub fn diagram_room(axes: u32) -> Result<DiagramRoom, Refusal>
     ensures entries { IfOk result (λ room. room.entries ≡ most_states axes * 2 ^ axes) }
 {
     let axes = AxisCount::try_from(axes)?;
-    let points = axes.points() as usize;
-    let states = axes.get() as usize * (points / 2);
-    Ok(DiagramRoom {
-        states,
-        entries: states * points,
-    })
+    Ok(DiagramRoom::new(axes))
 }

@@ -36,6 +36,7 @@ fn extend(axes: u32, list: &mut [u8]) -> usize
     let half = extend(axes - 1, list);
     let lead = (half / 2) as u8;
     list[half - 1] = list[half - 2] + lead;
+    // Once more back to front, and there with the leading bit flipped.
     list.copy_within(..half, half);
     let upper = &mut list[half..2 * half];
     upper.reverse();

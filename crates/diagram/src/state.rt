@@ -1,6 +1,6 @@
-ghost use Rattle.std.specs.Prelude.{◌≡◌, ◌+◌, ◌%◌, ◌^◌, ◌<◌, ◌≤◌, T};
+ghost use Rattle.std.specs.Prelude.{◌≡◌, ◌+◌, ◌%◌, ◌^◌, ◌<◌, ◌≤◌};
 ghost use Rattle.diagram.specs.Diagrams.{slot as slot_of};
-ghost use Rattle.diagram.specs.Pairs.{next_of, origin, pair_machine, point_of, seen_from};
+ghost use Rattle.diagram.specs.Pairs.{next_of, origin, point_of, seen_from};
 
 use crate::pair::Pair;
 use crate::rows::{gray, rotate, shift_of, start_of, ungray};

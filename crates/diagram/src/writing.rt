@@ -9,7 +9,7 @@ ghost use Rattle.diagram.specs.States.{states as numbered_states};
 use crate::entry::Entry;
 use crate::numbered::Numbers;
 use crate::pair::Pair;
-use crate::room::diagram_room;
+use crate::room::DiagramRoom;
 use crate::sequence::Sequence;
 use crate::state::State;
 use grid::{AxisCount, Refusal};
@@ -22,8 +22,8 @@ pub fn write_diagram(axes: u32, states: &mut [Pair], entries: &mut [Entry]) -> R
     ensures entries { entries.new ≡ unless (refusal result) (diagram_entries axes ++ drop (length (numbered_states axes) * 2 ^ axes) entries.old) entries.old }
     ensures numbered { OnOk result (OneNumbering axes) }
 {
-    let need = diagram_room(axes)?;
     let axes = AxisCount::try_from(axes)?;
+    let need = DiagramRoom::new(axes);
     if states.len() < need.states {
         return Err(Refusal::Space { need: need.states });
     }
@@ -48,6 +48,7 @@ fn write_both(axes: AxisCount, states: &mut [Pair], entries: &mut [Entry]) -> u3
     count as u32
 }
 
+// The entries of all states, where the states are written and numbered.
 fn write_entries(sequence: &Sequence, numbers: &Numbers, states: &[Pair], entries: &mut [Entry])
     requires axes { numbers.now.axes ≡ sequence.now.axes }
     requires states { states.now ≡ numbered_states sequence.now.axes.count }
@@ -56,6 +57,7 @@ fn write_entries(sequence: &Sequence, numbers: &Numbers, states: &[Pair], entrie
 {
     let axes = sequence.axes;
     let width = axes.points() as usize;
+    // Each row by its place: of what chunks_exact_mut lends nothing is known afterwards.
     for (number, pair) in states.iter().enumerate() {
         let state = State { axes, pair: *pair };
         let row = number * width;
