@@ -1,10 +1,12 @@
 -- The X2 sequence grows by one axis: what the builder's steps do to a list.
-use Rattle.std.proofs.Common.{◌≡◌, ℕ, zero, suc, ◌+◌, ◌-◌, ◌*◌, ◌/◌, ◌^◌, ◌<◌, ◌≤◌, Bool, true, false, cond, T, eqb, ltb, List, [], ◌∷◌, ◌++◌, map, reverse, length, get_or, take, drop, set, sym, refl, ap, ◌∙◌, ap₂, add-one, arith, eqb→eq, ltb→lt, length-append, length-take-le, take_all, drop-drop, take_at, drop_at, pow_pos}
-use native.Mathlib.Nat.{two-pow-succ, pow-le-pow_right}
-use Rattle.std.proofs.lemmas.List.{get_or-reverse, get_or-map}
+use Rattle.std.proofs.Common.{◌≡◌, ℕ, zero, suc, ◌+◌, ◌-◌, ◌*◌, ◌/◌, ◌^◌, ◌<◌, ◌≤◌, Bool, true, false, cond, T, eqb, ltb, List, [], ◌∷◌, ◌++◌, map, reverse, length, get_or, take, drop, set, sym, refl, ap, ◌∙◌, ap₂, arith, eqb→eq, ltb→lt, length-append, length-take-le, take_all, drop-drop, take_at, drop_at, pow_pos}
+use native.Mathlib.Nat.{sub-zero, two-pow-succ, pow-le-pow_right}
+use Rattle.std.proofs.lemmas.List.{append-nil, append_assoc, drop_all, drop_more, get_or_at, map_more, set_at}
 use lib.Bits.{bit_xor}
 use lib.ListN.{length-reverse, length-map, get_or-append}
-use lib.Seq.{paste, paste-suc, drop-append-add}
+use borrow.Rule.Slice.PartMut.{post_of}
+use lib.Seq.{paste}
+use Rattle.std.specs.List.{copy_within}
 use Rattle.grid.proofs.Limited.{two_to_eight}
 use Rattle.diagram.specs.Computed.{both_left, both_right}
 use Rattle.diagram.specs.Rows.{x2, repeat_last, lead_last, doubled, invert_upper}
@@ -92,48 +94,63 @@ module _ (e0 l : List ℕ) (lead len : ℕ) (hl : length l ≡ len) (two : 2 ≤
   long : length (half lead l) ≡ len
   long = length_half lead l ∙ hl
 
-  pub built : paste stored len (map (bit_xor lead) (reverse (take len stored))) len ≡ grow lead l ++ drop (len + len) e0
-  built =
-      ap (λ (x : List ℕ). paste x len (map (bit_xor lead) (reverse (take len x))) len) stored_is
-      ∙ ap₂ (λ (a b : List ℕ). a ++ take len (map (bit_xor lead) (reverse a)) ++ b)
-      (take_at (half lead l) (drop len e0) len long)
-      (ap (λ (k : ℕ). drop (k + len) (half lead l ++ drop len e0)) (sym long) ∙ drop-append-add (half lead l) (drop len e0) len ∙ drop-drop len len e0)
-      ∙ ap (λ (x : List ℕ). half lead l ++ x ++ drop (len + len) e0) (take_all len image (omega (arith, long, length-map (reverse (half lead l)) (bit_xor lead), length-reverse (half lead l))))
-      ∙ ap (λ (x : List ℕ). x ++ drop (len + len) e0) (sym (grow_is lead l))
+  -- the half once more behind itself, back to front and with the leading bit inverted
+  pub built : (copied upper : List ℕ) → copied ≡ copy_within stored 0 len len
+      → upper ≡ map (bit_xor lead) (reverse (take (2 * len - len) (drop len copied)))
+      → take len copied ++ (upper ++ post_of len (2 * len - len) copied) ≡ grow lead l ++ drop (len + len) e0
+  built copied upper ec eu =
+      ap₂ (λ (a b : List ℕ). a ++ b) front
+      (ap₂ (λ (a b : List ℕ). a ++ b) (eu ∙ ap (λ (x : List ℕ). map (bit_xor lead) (reverse x)) (ap₂ take twice back ∙ take_at h rest len long))
+      (ap₂ drop twice back ∙ drop_at h rest len long))
+      ∙ sym (append_assoc h (map (bit_xor lead) (reverse h)) rest) ∙ ap (λ (x : List ℕ). x ++ rest) (sym (grow_is lead l))
     where
-      image : List ℕ
-      image = map (bit_xor lead) (reverse (half lead l))
+      h : List ℕ
+      h = half lead l
 
--- a turn of the builder's loop
-pub turn : (d : List ℕ) (lead len i : ℕ) → i < len → len + len ≤ length d
-    → set (paste d len (map (bit_xor lead) (reverse (take len d))) i) (len + i) (bit_xor lead (get_or (paste d len (map (bit_xor lead) (reverse (take len d))) i) (len - 1 - i) 0))
-    ≡ paste d len (map (bit_xor lead) (reverse (take len d))) (i + 1)
-turn d lead len i h room =
-    ap (λ (v : ℕ). set (paste d len image i) (len + i) v) (ap (bit_xor lead) kept ∙ sym shown)
-    ∙ paste-suc d len image i 0 (omega arith) (omega (arith, image_long))
-    ∙ ap (paste d len image) (sym (add-one i))
+      rest : List ℕ
+      rest = drop (len + len) e0
+
+      twice : 2 * len - len ≡ len
+      twice = omega arith
+
+      copied_is : copied ≡ h ++ (h ++ rest)
+      copied_is =
+          ec ∙ ap (λ (x : List ℕ). copy_within x 0 len len) stored_is
+          ∙ ap (λ (k : ℕ). paste (h ++ drop len e0) len (h ++ drop len e0) k) (sub-zero len)
+          ∙ ap (λ (x : List ℕ). x ++ take len (h ++ drop len e0) ++ drop (len + len) (h ++ drop len e0)) (take_at h (drop len e0) len long)
+          ∙ ap₂ (λ (a b : List ℕ). h ++ a ++ b) (take_at h (drop len e0) len long)
+          (sym (drop-drop len len (h ++ drop len e0)) ∙ ap (drop len) (drop_at h (drop len e0) len long) ∙ drop-drop len len e0)
+          ∙ append_assoc h h rest
+
+      front : take len copied ≡ h
+      front = ap (take len) copied_is ∙ take_at h (h ++ rest) len long
+
+      back : drop len copied ≡ h ++ rest
+      back = ap (drop len) copied_is ∙ drop_at h (h ++ rest) len long
+
+-- a turn of a loop that puts f of each member in its place
+pub map_turn : (f : ℕ → ℕ) (l us : List ℕ) (i : ℕ) → i < length l → us ≡ map f (take i l) ++ drop i l
+    → set us i (f (get_or us i 0)) ≡ map f (take (i + 1) l) ++ drop (i + 1) l
+map_turn f l us i h e =
+    ap (λ (u : List ℕ). set u i (f (get_or u i 0))) (e ∙ ap (λ (r : List ℕ). front ++ r) (drop_more l i 0 h))
+    ∙ ap (λ (x : ℕ). set (front ++ (y ∷ rest)) i (f x)) (get_or_at front y rest 0 i long)
+    ∙ set_at front y rest (f y) i long
+    ∙ sym (ap (λ (r : List ℕ). r ++ rest) (map_more f l i 0 h) ∙ append_assoc front (f y ∷ []) rest)
   where
     front : List ℕ
-    front = take len d
+    front = map f (take i l)
 
-    front_long : length front ≡ len
-    front_long = length-take-le len d (omega arith)
+    y : ℕ
+    y = get_or l i 0
 
-    image : List ℕ
-    image = map (bit_xor lead) (reverse front)
+    rest : List ℕ
+    rest = drop (i + 1) l
 
-    image_long : length image ≡ len
-    image_long = length-map (reverse front) (bit_xor lead) ∙ length-reverse front ∙ front_long
+    long : length front ≡ i
+    long = length-map (take i l) f ∙ length-take-le i l (omega arith)
 
-    kept : get_or (paste d len image i) (len - 1 - i) 0 ≡ get_or front (len - 1 - i) 0
-    kept =
-        get_or-append (front ++ take i image) (drop (len + i) d) 0 (len - 1 - i) (omega (arith, length-append front (take i image), front_long))
-        ∙ get_or-append front (take i image) 0 (len - 1 - i) (omega (arith, front_long))
-
-    shown : get_or image i 0 ≡ bit_xor lead (get_or front (len - 1 - i) 0)
-    shown =
-        get_or-map (bit_xor lead) (reverse front) i 0 0 (omega (arith, length-reverse front, front_long))
-        ∙ ap (bit_xor lead) (get_or-reverse front i 0 (omega (arith, front_long)) ∙ ap (λ (k : ℕ). get_or front (k - 1 - i) 0) front_long)
+pub map_done : (f : ℕ → ℕ) (l us : List ℕ) (i : ℕ) → length l ≤ i → us ≡ map f (take i l) ++ drop i l → us ≡ map f l
+map_done f l us i h e = e ∙ ap₂ (λ (a b : List ℕ). map f a ++ b) (take_all i l h) (drop_all i l h) ∙ append-nil (map f l)
 
 -- the builder's call, from what its inner call promised
 module _ (n len : ℕ) (e0 out0 : List ℕ) (lo : 2 ≤ n) (hi : n ≤ 8) (hlen : len ≡ 2 ^ suc (n - 1))
@@ -150,9 +167,6 @@ module _ (n len : ℕ) (e0 out0 : List ℕ) (lo : 2 ≤ n) (hi : n ≤ 8) (hlen 
   long_inner : length (x2 (n - 1)) ≡ len
   long_inner = length_x2 (n - 1) (omega arith) (omega arith) ∙ sym hlen
 
-  pub answer_is : 2 * len ≡ 2 ^ suc n
-  answer_is = omega (arith, twofold)
-
   pub room_twice : len + len ≤ length e0
   room_twice = omega (arith, twofold)
 
@@ -165,12 +179,10 @@ module _ (n len : ℕ) (e0 out0 : List ℕ) (lo : 2 ≤ n) (hi : n ≤ 8) (hlen 
       let b : 2 ^ (n - 1) ≤ 2 ^ 7 = pow-le-pow_right {n = 2} (omega arith) {i = n - 1} {j = 7} (omega arith) in
       omega (arith, lead_is)
 
-  pub whole : paste (set out0 (len - 1) (get_or out0 (len - 2) 0 + len / 2)) len
-      (map (bit_xor (len / 2)) (reverse (take len (set out0 (len - 1) (get_or out0 (len - 2) 0 + len / 2))))) len
-      ≡ x2 n ++ drop (2 ^ suc n) e0
-  whole =
-      ap (λ (x : List ℕ). paste (set x (len - 1) (get_or x (len - 2) 0 + len / 2)) len
-      (map (bit_xor (len / 2)) (reverse (take len (set x (len - 1) (get_or x (len - 2) 0 + len / 2))))) len)
-      (hout ∙ ap (λ (k : ℕ). x2 (n - 1) ++ drop k e0) (sym hlen))
-      ∙ built e0 (x2 (n - 1)) (len / 2) len long_inner len_two room_twice
+  pub whole : (copied upper : List ℕ) → copied ≡ copy_within (set out0 (len - 1) (get_or out0 (len - 2) 0 + len / 2)) 0 len len
+      → upper ≡ map (bit_xor (len / 2)) (reverse (take (2 * len - len) (drop len copied)))
+      → take len copied ++ (upper ++ post_of len (2 * len - len) copied) ≡ x2 n ++ drop (2 ^ suc n) e0
+  whole copied upper ec eu =
+      built e0 (x2 (n - 1)) (len / 2) len long_inner len_two room_twice copied upper
+      (ec ∙ ap (λ (x : List ℕ). copy_within (set x (len - 1) (get_or x (len - 2) 0 + len / 2)) 0 len len) (hout ∙ ap (λ (k : ℕ). x2 (n - 1) ++ drop k e0) (sym hlen))) eu
       ∙ ap₂ (λ (x : List ℕ) (k : ℕ). x ++ drop k e0) (ap (λ (b : ℕ). grow b (x2 (n - 1))) lead_is ∙ sym (x2_grow n lo)) (sym twofold)

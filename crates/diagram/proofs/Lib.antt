@@ -1,3 +1,4 @@
+pub mod StateFacts
 pub mod Grow
 pub mod Published
 pub mod Known
@@ -9,5 +10,6 @@ pub mod FirstMeeting
 pub mod OneList
 pub mod Slots
 pub mod Taking
+pub mod AsNumbered
 pub mod EntryAt
 pub mod Filling

@@ -1,5 +1,5 @@
 -- Axes of bits, and the slots in which states are noted.
-use Rattle.std.proofs.Common.{◌≡◌, ℕ, suc, ◌+◌, ◌-◌, ◌*◌, ◌/◌, ◌%◌, ◌^◌, ◌<◌, ◌≤◌, Bool, T, eqb, leb, List, length, get_or, sym, ap, ◌∙◌, subst, arith, eqb→eq, leb→le, pow_mono}
+use Rattle.std.proofs.Common.{◌≡◌, ℕ, ◌+◌, ◌-◌, ◌*◌, ◌/◌, ◌%◌, ◌^◌, ◌<◌, ◌≤◌, Bool, T, eqb, leb, sym, ap, ◌∙◌, arith, eqb→eq, leb→le, pow_mono}
 use native.Mathlib.Nat.{two-pow-succ}
 use lib.Arith.{digits_div, digits_mod, digits_lt}
 use lib.Bits.{bit_xor, xor_lt}
@@ -9,9 +9,10 @@ use Rattle.grid.proofs.Limited.{two_to_eight}
 use Rattle.diagram.specs.declared.pair.Pair.{Pair}
 use Rattle.diagram.specs.Diagrams.{slot}
 use Rattle.diagram.specs.Pairs.{pair_machine}
-use Rattle.diagram.specs.Rows.{top_axis, x2}
+use Rattle.diagram.specs.Rows.{row_start, row_end, top_axis}
 use Rattle.diagram.specs.Computed.{both, both_left, both_right, each, at}
-use Rattle.diagram.proofs.Grow.{length_x2, x2_lt}
+use Rattle.diagram.proofs.Grow.{x2_lt}
+use Rattle.diagram.specs.Reckon.{row_start_lt}
 use Rattle.diagram.specs.Kept.{s_lt, h_lt}
 use Rattle.diagram.proofs.Known.{pair_is}
 
@@ -34,19 +35,11 @@ module _ (n : ℕ) (lo : 2 ≤ n) (hi : n ≤ 8) where
     pub axis_is : n - (8 - count_leading_zeros 8 b) ≡ top_axis n b
     axis_is = eqb→eq (n - (8 - count_leading_zeros 8 b)) (top_axis n b) (both_right (leb (8 - count_leading_zeros 8 b) n) _ led_at)
 
-  -- start and end of a row stand in the sequence
-  module _ (rows : List ℕ) (e : rows ≡ x2 n) (d : ℕ) (h : d < 2 ^ n) where
-    pub row_within : 2 * d + 1 < length rows
-    row_within = omega (arith, ap length e, length_x2 n (omega arith) hi, two-pow-succ n)
-
-    below : (i : ℕ) → i < 2 ^ suc n → get_or rows i 0 < 2 ^ n
-    below i l = subst (λ (r : List ℕ). get_or r i 0 < 2 ^ n) (sym e) (x2_lt n (omega arith) hi i l)
-
-    pub start_below : get_or rows (2 * d) 0 < 2 ^ n
-    start_below = below (2 * d) (omega (arith, two-pow-succ n))
-
-    pub bits_below : bit_xor (get_or rows (2 * d) 0) (get_or rows (2 * d + 1) 0) < 2 ^ n
-    bits_below = xor_lt n (get_or rows (2 * d) 0) (get_or rows (2 * d + 1) 0) start_below (below (2 * d + 1) (omega (arith, two-pow-succ n)))
+  -- start and end of a row are n-points
+  pub bits_below : (d : ℕ) → d < 2 ^ n → bit_xor (row_start n d) (row_end n d) < 2 ^ n
+  bits_below d h =
+      xor_lt n (row_start n d) (row_end n d) (row_start_lt n lo hi d h)
+      (x2_lt n (omega arith) hi (2 * d + 1) (omega (arith, two-pow-succ n)))
 
   module _ (s : Pair) (l : T ((pair_machine n).is_state s)) where
     pub slot_lt : slot n s < 2048

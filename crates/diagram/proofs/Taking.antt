@@ -7,7 +7,9 @@ use Rattle.std.proofs.lemmas.Nat.{mul-le}
 use Rattle.std.proofs.lemmas.List.{length-take-le, get_or-take, get_or-set_same, get_or-set_other, get_or_append_left, get_or_at, get_or-map, take_more_set, take-append-drop, drop_more, drop_all, length_push}
 use Rattle.std.proofs.lemmas.Bool.{cond-true, cond-false, lt-ltb, le-ltb, ltb-true, and_from, and_parts}
 use Rattle.arithmetic.proofs.Fronts.{rest_on, rest_more}
+use Rattle.grid.specs.declared.axis_count.AxisCount.{AxisCount}
 use Rattle.diagram.specs.declared.pair.Pair.{Pair}
+use Rattle.diagram.specs.declared.state.State.{State}
 use Rattle.diagram.specs.Diagrams.{slot, Noted}
 use Rattle.diagram.specs.Pairs.{point_of, next_of, origin}
 use Rattle.diagram.specs.States.{below, digit_of, known, same_pair, met_from, meet, taken, most_states, states}
@@ -35,13 +37,15 @@ module _ (n : ℕ) (lo : 2 ≤ n) (hi : n ≤ 8) where
   most_some = mul-le 1 1 n (2 ^ (n - 1)) (omega arith) (lib.Pow.pow_pos (n - 1))
 
   -- state 0 alone
-  pub going_first : (rs : List Pair) (notes : List ℕ) → most_states n ≤ length rs → length notes ≡ 2048 → Going n (set rs 0 origin) (set rs 0 origin) (set notes 0 0) 1
-  going_first [] notes h w = absurd (omega (arith, most_some))
-  going_first (r ∷ rs) [] h w = absurd (omega arith)
-  going_first (r ∷ rs) (x ∷ notes) h w = record { within = omega arith; space = h; distinct = first_distinct n lo hi; noted = one; wide = w; rest = refl }
+  pub going_first : (rs : List Pair) (notes : List ℕ) (first : Pair) → most_states n ≤ length rs → length notes ≡ 2048 → get_or notes 0 0 ≡ 0 → first ≡ origin
+      → Going n (set rs 0 first) (set rs 0 first) notes 1
+  going_first [] notes first h w z e = absurd (omega (arith, most_some))
+  going_first (r ∷ rs) notes first h w z e =
+      subst (λ (s : Pair). Going n (s ∷ rs) (s ∷ rs) notes 1) (sym e)
+      (record { within = omega arith; space = h; distinct = first_distinct n lo hi; noted = one; wide = w; rest = refl })
     where
-      one : Noted n (origin ∷ []) (0 ∷ notes)
-      one zero hk = ap (λ (i : ℕ). get_or (0 ∷ notes) i 0) (let z : 0 * 2 ^ n + 0 ≡ 0 = omega (arith, zero-mul (2 ^ n)) in z)
+      one : Noted n (origin ∷ []) notes
+      one zero hk = ap (λ (i : ℕ). get_or notes i 0) (let z : 0 * 2 ^ n + 0 ≡ 0 = omega (arith, zero-mul (2 ^ n)) in z) ∙ z
       one (suc k) hk = absurd (omega arith)
 
   module _ (rs0 rs : List Pair) (notes : List ℕ) (count : ℕ) (G : Going n rs0 rs notes count) where
@@ -58,16 +62,15 @@ module _ (n : ℕ) (lo : 2 ≤ n) (hi : n ≤ 8) where
     count_few = subst (λ (x : ℕ). x ≤ most_states n) long (few n lo hi (take count rs) G.distinct)
 
     -- the state next is looked for where its number would be noted
-    module _ (next : Pair) (e : Even n next) (b : Bool) (test : b ≡ (ltb (get_or notes (slot n next) 0) count && same_pair next (get_or rs (get_or notes (slot n next) 0) origin))) where
+    module _ (next : Pair) (e : Even n next) (b : Bool) (test : b ≡ (ltb (get_or notes (slot n next) 0) (length (take count rs)) && same_pair next (get_or (take count rs) (get_or notes (slot n next) 0) origin))) where
       place : ℕ
       place = get_or notes (slot n next) 0
 
       recognized : b ≡ true → known (take count rs) next ≡ true
       unfolding place
       recognized t =
-          let parts = and_parts (ltb place count) (same_pair next (get_or rs place origin)) (sym test ∙ t) in
-          let lt = ltb-true place count parts.0 in
-          is_known (take count rs) next place (omega (arith, long)) (at_front place lt ∙ sym (same_true next (get_or rs place origin) parts.1))
+          let parts = and_parts (ltb place (length (take count rs))) (same_pair next (get_or (take count rs) place origin)) (sym test ∙ t) in
+          is_known (take count rs) next place (ltb-true place (length (take count rs)) parts.0) (sym (same_true next (get_or (take count rs) place origin) parts.1))
 
       is_new : b ≡ false → known (take count rs) next ≡ false
       unfolding place
@@ -75,9 +78,8 @@ module _ (n : ℕ) (lo : 2 ≤ n) (hi : n ≤ 8) where
           not_known (take count rs) next
           (λ k h q.
           let here : place ≡ k = ap (λ (s : Pair). get_or notes (slot n s) 0) (sym q) ∙ G.noted k h in
-          let hk : k < count = omega (arith, long) in
-          let t = and_from (ltb place count) (same_pair next (get_or rs place origin)) (lt-ltb place count (omega (arith, here)))
-          (same_self next (get_or rs place origin) (sym (ap (λ (x : ℕ). get_or rs x origin) here ∙ sym (at_front k hk) ∙ q))) in
+          let t = and_from (ltb place (length (take count rs))) (same_pair next (get_or (take count rs) place origin)) (lt-ltb place (length (take count rs)) (omega arith))
+          (same_self next (get_or (take count rs) place origin) (sym (ap (λ (x : ℕ). get_or (take count rs) x origin) here ∙ q))) in
           let z : ◌≡◌ {A = ℕ} 0 1 = cc (test, f, t) in omega arith)
 
       module _ (f : b ≡ false) where
@@ -148,47 +150,45 @@ pub record Turn (n : ℕ) (rs0 rs : List Pair) (notes : List ℕ) (count : ℕ) 
   pub going : Going n rs0 rs notes count
   pub to_meet : meet (take count rs) (drop p (met_from n s)) ≡ whole
 
-pub turn_done : (n : ℕ) {rs0 : List Pair} (rs : List Pair) (notes : List ℕ) (count : ℕ) (s : Pair) (p : ℕ) (whole : List Pair)
+pub turn_done : {n : ℕ} {rs0 rs : List Pair} {notes : List ℕ} {count : ℕ} {s : Pair} {p : ℕ} {whole : List Pair}
     → Turn n rs0 rs notes count s p whole → 2 ^ n ≤ p → take count rs ≡ whole
-turn_done n rs notes count s p whole U h = sym (ap (meet (take count rs)) (drop_all p (met_from n s) (omega (arith, length_met n s)))) ∙ U.to_meet
+turn_done {n} {rs0} {rs} {notes} {count} {s} {p} U h = sym (ap (meet (take count rs)) (drop_all p (met_from n s) (omega (arith, length_met n s)))) ∙ U.to_meet
 
-pub even_as : (n : ℕ) → 2 ≤ n → n ≤ 8 → (s : Pair) → Even n s → (d : ℕ) → d < 2 ^ n → (next : Pair) → next ≡ next_of n s d → Even n next
-even_as n lo hi s es d hd next is = subst (Even n) (sym is) (even_next n lo hi s es d hd)
+-- one n-point more, of which the program has the next state and has looked at the number noted for it
+module _ (a : AxisCount) {rs0 rs : List Pair} {notes : List ℕ} {count : ℕ} {s : Pair} {p : ℕ} {whole : List Pair}
+    (U : Turn a.count rs0 rs notes count s p whole) (es : Even a.count s) (hp : p < 2 ^ a.count)
+    {d : ℕ} (hd : d < 2 ^ a.count) (dp : point_of a.count s d ≡ p) (next : State) (ax : next.axes ≡ a) (is : next.pair ≡ next_of a.count s d)
+    {place : ℕ} (at_slot : place ≡ slot next.axes.count next.pair)
+    {b : Bool} (test : b ≡ (ltb (get_or notes place 0) (length (take count rs)) && same_pair next.pair (get_or (take count rs) (get_or notes place 0) origin))) where
+  even_met : Even a.count next.pair
+  even_met = subst (Even a.count) (sym is) (even_next a.count a.least a.most s es d hd)
 
-module _ (n : ℕ) (lo : 2 ≤ n) (hi : n ≤ 8) (rs0 rs : List Pair) (notes : List ℕ) (count : ℕ) (s : Pair) (p : ℕ) (whole : List Pair)
-    (U : Turn n rs0 rs notes count s p whole) (es : Even n s) (hp : p < 2 ^ n) where
-  module _ (d : ℕ) (hd : d < 2 ^ n) (dp : point_of n s d ≡ p) (next : Pair) (is : next ≡ next_of n s d) where
-    even_met : Even n next
-    even_met = even_as n lo hi s es d hd next is
+  to_meet : meet (take count rs) (next.pair ∷ drop (p + 1) (met_from a.count s)) ≡ whole
+  to_meet =
+      sym (ap (meet (take count rs)) (met_split a.count s p hp
+      ∙ ap (λ (x : Pair). x ∷ drop (p + 1) (met_from a.count s)) (ap (next_of a.count s) (sym (ap (digit_of a.count s) dp) ∙ digit_at a.count a.least a.most s es.is_state d hd) ∙ sym is)))
+      ∙ U.to_meet
 
-    split : drop p (met_from n s) ≡ next ∷ drop (p + 1) (met_from n s)
-    split =
-        met_split n s p hp
-        ∙ ap (λ (a : Pair). a ∷ drop (p + 1) (met_from n s))
-        (ap (next_of n s) (sym (ap (digit_of n s) dp) ∙ digit_at n lo hi s es.is_state d hd) ∙ sym is)
+  place_is : place ≡ slot a.count next.pair
+  place_is = at_slot ∙ ap (λ (x : AxisCount). slot x.count next.pair) ax
 
-    to_meet : meet (take count rs) (next ∷ drop (p + 1) (met_from n s)) ≡ whole
-    to_meet = sym (ap (meet (take count rs)) split) ∙ U.to_meet
+  tested : b ≡ (ltb (get_or notes (slot a.count next.pair) 0) (length (take count rs)) && same_pair next.pair (get_or (take count rs) (get_or notes (slot a.count next.pair) 0) origin))
+  tested = test ∙ ap (λ (i : ℕ). ltb (get_or notes i 0) (length (take count rs)) && same_pair next.pair (get_or (take count rs) (get_or notes i 0) origin)) place_is
 
-    -- the number that is noted at the slot is looked at
-    module _ (place : ℕ) (at_slot : place ≡ slot n next) (b : Bool) (test : b ≡ (ltb (get_or notes place 0) count && same_pair next (get_or rs (get_or notes place 0) origin))) where
-      tested : b ≡ (ltb (get_or notes (slot n next) 0) count && same_pair next (get_or rs (get_or notes (slot n next) 0) origin))
-      tested = test ∙ ap (λ (i : ℕ). ltb (get_or notes i 0) count && same_pair next (get_or rs (get_or notes i 0) origin)) at_slot
+  pub turn_known : b ≡ true → Turn a.count rs0 rs notes count s (p + 1) whole
+  turn_known t =
+      record { going = U.going; to_meet = met_known a.count a.least a.most rs0 rs notes count U.going next.pair even_met b tested (drop (p + 1) (met_from a.count s)) whole to_meet t }
 
-      pub turn_known : b ≡ true → Turn n rs0 rs notes count s (p + 1) whole
-      turn_known t =
-          record { going = U.going; to_meet = met_known n lo hi rs0 rs notes count U.going next even_met b tested (drop (p + 1) (met_from n s)) whole to_meet t }
+  pub turn_room : b ≡ false → count < length rs
+  turn_room f = omega (arith, room a.count a.least a.most rs0 rs notes count U.going next.pair even_met b tested f, U.going.space)
 
-      pub turn_room : b ≡ false → count < length rs
-      turn_room f = omega (arith, room n lo hi rs0 rs notes count U.going next even_met b tested f, U.going.space)
-
-      pub turn_new : b ≡ false → Turn n rs0 (set rs count next) (set notes place count) (count + 1) s (p + 1) whole
-      turn_new f =
-          record {
-            going = subst (λ (i : ℕ). Going n rs0 (set rs count next) (set notes i count) (count + 1)) (sym at_slot)
-                (going_on n lo hi rs0 rs notes count U.going next even_met b tested f);
-            to_meet = met_new n lo hi rs0 rs notes count U.going next even_met b tested (drop (p + 1) (met_from n s)) whole to_meet f;
-          }
+  pub turn_new : b ≡ false → Turn a.count rs0 (set rs count next.pair) (set notes place count) (count + 1) s (p + 1) whole
+  turn_new f =
+      record {
+        going = subst (λ (i : ℕ). Going a.count rs0 (set rs count next.pair) (set notes i count) (count + 1)) (sym place_is)
+            (going_on a.count a.least a.most rs0 rs notes count U.going next.pair even_met b tested f);
+        to_meet = met_new a.count a.least a.most rs0 rs notes count U.going next.pair even_met b tested (drop (p + 1) (met_from a.count s)) whole to_meet f;
+      }
 
 -- ---- all states
 taken_all : (n f i : ℕ) (l : List Pair) → length l ≤ i → taken n f i l ≡ l
@@ -209,21 +209,25 @@ pub record Taking (n : ℕ) (rs0 rs : List Pair) (notes : List ℕ) (count i : �
   pub so_far : i ≤ count
   pub whole : taken n (most_states n - i) i (take count rs) ≡ states n
 
-module _ (n : ℕ) (lo : 2 ≤ n) (hi : n ≤ 8) where
-  pub taking_first : (rs : List Pair) (notes : List ℕ) → most_states n ≤ length rs → length notes ≡ 2048 → Taking n (set rs 0 origin) (set rs 0 origin) (set notes 0 0) 1 0
-  taking_first rs notes h w =
+module _ (a : AxisCount) where
+  pub going_few : {rs0 rs : List Pair} {notes : List ℕ} {count : ℕ} → Going a.count rs0 rs notes count → count ≤ 1024
+  going_few {rs0} {rs} {notes} {count} G = omega (arith, count_few a.count a.least a.most rs0 rs notes count G, most_few a.count a.least a.most)
+
+  pub taking_first : (rs : List Pair) (notes : List ℕ) (first : Pair) → most_states a.count ≤ length rs → length notes ≡ 2048 → get_or notes 0 0 ≡ 0 → first ≡ origin
+      → Taking a.count (set rs 0 first) (set rs 0 first) notes 1 0
+  taking_first rs notes first h w z e =
       record {
-        going = going_first n lo hi rs notes h w;
+        going = going_first a.count a.least a.most rs notes first h w z e;
         some = omega arith;
         so_far = omega arith;
-        whole = ap₂ (λ (f : ℕ) (l : List Pair). taken n f 0 l) (sub-zero (most_states n)) (one rs h);
+        whole = ap₂ (λ (f : ℕ) (l : List Pair). taken a.count f 0 l) (sub-zero (most_states a.count)) (one rs h ∙ ap (λ (s : Pair). s ∷ []) e);
       }
     where
-      one : (rs : List Pair) → most_states n ≤ length rs → take 1 (set rs 0 origin) ≡ origin ∷ []
-      one [] h = absurd (omega (arith, most_some n lo hi))
+      one : (rs : List Pair) → most_states a.count ≤ length rs → take 1 (set rs 0 first) ≡ first ∷ []
+      one [] h = absurd (omega (arith, most_some a.count a.least a.most))
       one (r ∷ rs) h = refl
 
-  module _ (rs0 rs : List Pair) (notes : List ℕ) (count i : ℕ) (K : Taking n rs0 rs notes count i) where
+  module _ {rs0 rs : List Pair} {notes : List ℕ} {count i : ℕ} (K : Taking a.count rs0 rs notes count i) where
     front_long : length (take count rs) ≡ count
     front_long = length-take-le count rs K.going.within
 
@@ -231,39 +235,39 @@ module _ (n : ℕ) (lo : 2 ≤ n) (hi : n ≤ 8) where
       here : get_or (take count rs) i origin ≡ get_or rs i origin
       here = get_or-take count rs i origin h
 
-      pub taken_lt : i < most_states n
-      taken_lt = omega (arith, count_few n lo hi rs0 rs notes count K.going)
+      pub taken_lt : i < most_states a.count
+      taken_lt = omega (arith, count_few a.count a.least a.most rs0 rs notes count K.going)
 
-      pub even_now : Even n (get_or rs i origin)
-      even_now = even_at n lo hi rs0 rs notes count K.going i h
+      pub even_now : Even a.count (get_or rs i origin)
+      even_now = even_at a.count a.least a.most rs0 rs notes count K.going i h
 
       -- one more is taken
-      pub taking_on : (rs' : List Pair) (notes' : List ℕ) (count' : ℕ) → Going n rs rs' notes' count'
-          → take count' rs' ≡ meet (take count rs) (met_from n (get_or rs i origin)) → Taking n rs0 rs' notes' count' (i + 1)
-      taking_on rs' notes' count' G e =
+      pub taking_on : {rs' : List Pair} {notes' : List ℕ} {count' : ℕ} → Going a.count rs rs' notes' count'
+          → take count' rs' ≡ meet (take count rs) (met_from a.count (get_or rs i origin)) → Taking a.count rs0 rs' notes' count' (i + 1)
+      taking_on {rs'} {notes'} {count'} G e =
           record {
             going = record { within = G.within; space = G.space; distinct = G.distinct; noted = G.noted; wide = G.wide; rest = rest_on count count' rs' rs rs0 more G.rest K.going.rest };
             some = omega (arith, more);
             so_far = omega (arith, more);
-            whole = ap (taken n (most_states n - (i + 1)) (i + 1)) (e ∙ ap (λ (s : Pair). meet (take count rs) (met_from n s)) (sym here))
-                ∙ sym (taken_on n (most_states n) i (take count rs) (omega (arith, front_long)) taken_lt) ∙ K.whole;
+            whole = ap (taken a.count (most_states a.count - (i + 1)) (i + 1)) (e ∙ ap (λ (s : Pair). meet (take count rs) (met_from a.count s)) (sym here))
+                ∙ sym (taken_on a.count (most_states a.count) i (take count rs) (omega (arith, front_long)) taken_lt) ∙ K.whole;
           }
         where
-          M : Met n (take count rs) (met_from n (get_or rs i origin)) (meet (take count rs) (met_from n (get_or rs i origin)))
-          M = met n (take count rs) (met_from n (get_or rs i origin)) K.going.distinct (met_even n lo hi (get_or rs i origin) even_now)
+          M : Met a.count (take count rs) (met_from a.count (get_or rs i origin)) (meet (take count rs) (met_from a.count (get_or rs i origin)))
+          M = met a.count (take count rs) (met_from a.count (get_or rs i origin)) K.going.distinct (met_even a.count a.least a.most (get_or rs i origin) even_now)
 
           more : count ≤ count'
           more = omega (arith, grown_length M.grown, front_long, length-take-le count' rs' G.within, ap length e)
 
     module _ (h : count ≤ i) where
-      pub all_taken : take count rs ≡ states n
-      all_taken = sym (taken_all n (most_states n - i) i (take count rs) (omega (arith, front_long))) ∙ K.whole
+      pub all_taken : take count rs ≡ states a.count
+      all_taken = sym (taken_all a.count (most_states a.count - i) i (take count rs) (omega (arith, front_long))) ∙ K.whole
 
-      pub counted : count ≡ length (states n)
+      pub counted : count ≡ length (states a.count)
       counted = sym front_long ∙ ap length all_taken
 
-      pub filled : rs ≡ states n ++ drop count rs0
+      pub filled : rs ≡ states a.count ++ drop count rs0
       filled = sym (take-append-drop count rs) ∙ ap₂ ◌++◌ all_taken K.going.rest
 
-      pub all_noted : Noted n (states n) notes
-      all_noted = subst (λ (l : List Pair). Noted n l notes) all_taken K.going.noted
+      pub all_noted : Noted a.count (states a.count) notes
+      all_noted = subst (λ (l : List Pair). Noted a.count l notes) all_taken K.going.noted

@@ -1,44 +1,12 @@
--- The diagram: the states that can be reached from (0, 0), with their numbers, and their entries.
--- A state is numbered at its first meeting. The search looks at the states in the order of their numbers, and at the n-points of each from 0 upwards.
+-- The diagram once more, by a search that goes on for as many states as there can be, without looking where the list ends.
+-- A state is numbered at its first meeting, as in `States`, whose words this file passes on. `proofs/AsNumbered.antt` has that both give the same states and entries.
 --
--- below             — the numbers below n, ascending
--- digit_of          — the digit that has an n-point in a state
--- met_from          — the next states of a state, in the order in which they are met
 -- states            — the states by number
 -- entries           — the entries by state and then by digit: n-point and number of the next state
-use Rattle.std.specs.Prelude.{ℕ, zero, suc, ◌-◌, ◌*◌, ◌^◌, Bool, true, false, cond, ◌&&◌, List, [], ◌∷◌, ◌++◌, map, ◌==◌, nat_eq, slice_index_or}
+use Rattle.std.specs.Prelude.{ℕ, zero, suc, ◌-◌, ◌*◌, ◌^◌, List, [], ◌∷◌, ◌++◌, map, slice_index_or}
 use Rattle.diagram.specs.declared.pair.Pair.{Pair}
 use Rattle.diagram.specs.Pairs.{point_of, next_of, origin}
-
-abbrev pub from : ℕ → ℕ → List ℕ
-from i zero = []
-from i (suc left) = i ∷ from (suc i) left
-
-abbrev pub below : ℕ → List ℕ
-below n = from 0 n
-
--- The place at which a test first passes, or the length.
-abbrev pub place : {A : Type 0} → (A → Bool) → List A → ℕ
-place test [] = 0
-place test (a ∷ l) = let rest = place test l in cond (test a) 0 (suc rest)
-
-abbrev pub digit_of : ℕ → Pair → ℕ → ℕ
-digit_of n s p = place (λ d. nat_eq (point_of n s d) p) (below (2 ^ n))
-
-abbrev pub met_from : ℕ → Pair → List Pair
-met_from n s = map (λ p. next_of n s (digit_of n s p)) (below (2 ^ n))
-
-abbrev pub same_pair : Pair → Pair → Bool
-same_pair a b = a.start == b.start && a.shift == b.shift
-
-abbrev pub known : List Pair → Pair → Bool
-known [] a = false
-known (b ∷ l) a = let rest = known l a in cond (same_pair a b) true rest
-
--- A state that is not known yet is put at the end.
-abbrev pub meet : List Pair → List Pair → List Pair
-meet l [] = l
-meet l (a ∷ more) = meet (cond (known l a) l (l ++ (a ∷ []))) more
+pub use Rattle.diagram.specs.States.{from, below, place, digit_of, met_from, same_pair, known, meet}
 
 -- Once the states 0 to f - 1 have been taken.
 abbrev pub met_by : ℕ → ℕ → List Pair

@@ -10,8 +10,8 @@ mod entry;
 mod sequence;
 // Rows and rotations, reckoned.
 mod rows;
-// What a digit has in a state.
-mod seen;
+// A state with its number of axes, and what a digit has in it.
+mod state;
 // The room that a diagram needs.
 mod room;
 // The states by number.

@@ -1,100 +1,74 @@
-ghost use Rattle.std.specs.Prelude.{◌≡◌, ◌^◌, ◌<◌, ◌≤◌, ◌&&◌, T, ◌++◌, length, drop, nat_lt, slice_index_or};
+ghost use Rattle.std.specs.Prelude.{◌≡◌, ◌≤◌, ◌&&◌, ◌++◌, length, drop, nat_lt, slice_index_or, Contains};
 ghost use Rattle.diagram.specs.Diagrams.{Noted};
-ghost use Rattle.diagram.specs.Diagrams.{slot as slot_of};
-ghost use Rattle.diagram.specs.Pairs.{next_of, origin, pair_machine};
-ghost use Rattle.diagram.specs.Rows.{top_axis, x2};
-ghost use Rattle.diagram.specs.States.{most_states, same_pair};
+ghost use Rattle.diagram.specs.Pairs.{origin};
+ghost use Rattle.diagram.specs.States.{most_states, number_of, same_pair};
 ghost use Rattle.diagram.specs.States.{states as numbered_states};
 
 use crate::pair::Pair;
-use crate::seen::{digit_in, turned_by};
+use crate::sequence::Sequence;
+use crate::state::State;
+use grid::AxisCount;
 
-// How many digits there are, and n-points.
-pub(crate) fn digits(axes: u32) -> u32
-    requires { axes ≤ 8 }
-    ensures is { result ≡ 2 ^ axes }
-    ensures few { result ≤ 256 }
-{
-    1 << axes
+// How many states a diagram has, and where the number of each is noted: at its slot. The room is that of eight axes.
+#[derive(Drop)]
+pub(crate) struct Numbers {
+    axes: AxisCount,
+    count: usize,
+    notes: [u16; 2048],
+    ghost counted: { count ≡ length (numbered_states axes.count) },
+    ghost noted: { Noted axes.count (numbered_states axes.count) notes },
 }
 
-// The axis, less 1, of the highest bit among n.
-fn first_axis(axes: u32, bits: u8) -> u32
-    requires least { 2 ≤ axes }
-    requires most { axes ≤ 8 }
-    requires small { bits < 2 ^ axes }
-    ensures is { result ≡ top_axis axes bits }
-    ensures within { result ≤ axes }
-{
-    axes - (8 - bits.leading_zeros())
-}
-
-// The state after a digit, by the starts and ends of the rows.
-pub(crate) fn next_by(axes: u32, rows: &[u8], state: Pair, digit: u32) -> Pair
-    requires least { 2 ≤ axes }
-    requires most { axes ≤ 8 }
-    requires rows { rows.now ≡ x2 axes }
-    requires state { T ((pair_machine axes).is_state state) }
-    requires small { digit < 2 ^ axes }
-    ensures { result ≡ next_of axes state digit }
-{
-    let start = rows[2 * digit as usize];
-    let end = rows[2 * digit as usize + 1];
-    turned_by(axes, state, start as u64, first_axis(axes, start ^ end))
-}
-
-// Where the number of a state is noted.
-pub(crate) fn slot(axes: u32, state: Pair) -> usize
-    requires least { 2 ≤ axes }
-    requires most { axes ≤ 8 }
-    requires state { T ((pair_machine axes).is_state state) }
-    ensures is { result ≡ slot_of axes state }
-    ensures within { result < 2048 }
-{
-    state.shift as usize * digits(axes) as usize + state.start as usize
-}
-
-// Whether the state of that number is known, and is this one.
-fn is_number(states: &[Pair], count: usize, number: usize, state: Pair) -> bool
-    requires { count ≤ length states.now }
-    ensures { result ≡ (nat_lt number count && same_pair state (slice_index_or states.now number origin)) }
-{
-    if number >= count {
-        return false;
-    }
-    let known = states[number];
-    state.start == known.start && state.shift == known.shift
-}
-
-// Numbers the states as they are first met, at the front of the list, and answers how many there are. The number of each is noted at its slot.
-pub(crate) fn number_states(axes: u32, rows: &[u8], states: &mut [Pair], notes: &mut [u16]) -> usize
-    requires least { 2 ≤ axes }
-    requires most { axes ≤ 8 }
-    requires rows { rows.now ≡ x2 axes }
-    requires room { most_states axes ≤ length states.old }
-    requires notes { length notes.old ≡ 2048 }
-    ensures count { result ≡ length (numbered_states axes) }
-    ensures few { result ≤ 1024 }
-    ensures within { result ≤ length states.old }
-    ensures listed { states.new ≡ numbered_states axes ++ drop result states.old }
-    ensures noted { Noted axes (numbered_states axes) notes.new }
-{
-    states[0] = Pair { start: 0, shift: 0 };
-    notes[0] = 0;
-    let mut count = 1;
-    let mut taken = 0;
-    while taken < count {
-        let state = states[taken];
-        for point in 0..digits(axes) {
-            let next = next_by(axes, rows, state, digit_in(axes, state, point));
-            let place = slot(axes, next);
-            if !is_number(states, count, notes[place] as usize, next) {
-                states[count] = next;
-                notes[place] = count as u16;
-                count += 1;
+impl Numbers {
+    // Numbers the states as they are first met, at the front of the list.
+    pub(crate) fn new(sequence: &Sequence, states: &mut [Pair]) -> Numbers
+        requires { most_states sequence.now.axes.count ≤ length states.old }
+        ensures axes { result.axes ≡ sequence.now.axes }
+        ensures listed { let l = numbered_states sequence.now.axes.count in states.new ≡ l ++ drop (length l) states.old }
+    {
+        let axes = sequence.axes;
+        let mut notes = [0; 2048];
+        states[0] = State::first(axes).pair;
+        let mut count = 1;
+        let mut taken = 0;
+        // By index, since the list grows while it is walked: an iterator would hold it.
+        while taken < count {
+            let pair = states[taken];
+            let state = State { axes, pair };
+            for point in 0..axes.points() {
+                let next = sequence.next(state, state.digit(point));
+                let slot = next.slot();
+                if !is_number(&states[..count], notes[slot] as usize, next.pair) {
+                    states[count] = next.pair;
+                    notes[slot] = count as u16;
+                    count += 1;
+                }
             }
+            taken += 1;
         }
-        taken += 1;
+        Numbers { axes, count, notes }
     }
-    count
+
+    pub(crate) fn count(&self) -> usize
+        ensures is { result ≡ length (numbered_states self.now.axes.count) }
+        ensures few { result ≤ 1024 }
+    {
+        self.count
+    }
+
+    // The number of a state.
+    pub(crate) fn of(&self, state: State) -> u16
+        requires axes { self.now.axes ≡ state.axes }
+        requires known { Contains (numbered_states state.axes.count) state.pair }
+        ensures { result ≡ number_of (numbered_states state.axes.count) state.pair }
+    {
+        self.notes[state.slot()]
+    }
+}
+
+// Whether a number is that of the state.
+fn is_number(states: &[Pair], number: usize, state: Pair) -> bool
+    ensures { result ≡ (nat_lt number (length states.now) && same_pair state (slice_index_or states.now number origin)) }
+{
+    states.get(number) == Some(&state)
 }

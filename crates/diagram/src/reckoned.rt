@@ -4,8 +4,7 @@ ghost use Rattle.diagram.specs.Kept.{pairs_exact, pairs_rules};
 ghost use Rattle.diagram.specs.Reckon.{origin_state};
 
 use crate::pair::Pair;
-use crate::rows::{shift_of, start_of};
-use crate::seen::{digit_in, point_in, turned_by};
+use crate::state::State;
 use grid::AxisCount;
 use machine::{Curve, CurveRule, JoinedRule};
 
@@ -32,18 +31,16 @@ impl CurveRule for HilbertRule {
         Pair { start: 0, shift: 0 }
     }
 
-    fn point(axes: AxisCount, state: Pair, digit: u32) -> u32 {
-        point_in(axes.get(), state, digit)
+    fn point(axes: AxisCount, pair: Pair, digit: u32) -> u32 {
+        State { axes, pair }.point(digit)
     }
 
-    fn digit(axes: AxisCount, state: Pair, point: u32) -> u32 {
-        digit_in(axes.get(), state, point)
+    fn digit(axes: AxisCount, pair: Pair, point: u32) -> u32 {
+        State { axes, pair }.digit(point)
     }
 
-    fn next(axes: AxisCount, state: Pair, digit: u32) -> Pair {
-        let axes = axes.get();
-        let row = digit as u64;
-        turned_by(axes, state, start_of(axes, row), shift_of(axes, row))
+    fn next(axes: AxisCount, pair: Pair, digit: u32) -> Pair {
+        State { axes, pair }.next(digit).pair
     }
 }
 

@@ -3,6 +3,8 @@ ghost use Rattle.diagram.specs.Rows.{x1, row_start, row_shift};
 ghost use Rattle.diagram.specs.Rows.{rotated as rotr};
 ghost use Rattle.diagram.specs.Reckons.{gray_undone};
 
+use grid::AxisCount;
+
 // X1: the Gray code.
 pub(crate) fn gray(row: u64) -> u64
     ensures { result ≡ x1 row }
@@ -20,13 +22,13 @@ pub(crate) fn ungray(point: u64) -> u64
 }
 
 // A number of n bits, rotated right.
-pub(crate) fn rotate(axes: u32, by: u32, x: u64) -> u64
-    requires axes { axes ≤ 8 }
-    requires by { by ≤ axes }
-    requires small { x < 2 ^ axes }
-    ensures { result ≡ rotr axes by x }
+pub(crate) fn rotate(axes: AxisCount, by: u32, x: u64) -> u64
+    requires by { by ≤ axes.count }
+    requires small { x < 2 ^ axes.count }
+    ensures is { result ≡ rotr axes.count by x }
+    ensures small { result < 2 ^ axes.count }
 {
-    join(low(x, by), axes - by, x >> by)
+    join(low(x, by), axes.get() - by, x >> by)
 }
 
 // The lowest bits.
@@ -47,12 +49,10 @@ fn join(x: u64, bits: u32, more: u64) -> u64
 }
 
 // Rows 2i - 1 and 2i start at X1 of 2i - 2.
-pub(crate) fn start_of(axes: u32, row: u64) -> u64
-    requires least { 2 ≤ axes }
-    requires most { axes ≤ 8 }
-    requires small { row < 2 ^ axes }
-    ensures is { result ≡ row_start axes row }
-    ensures small { result < 2 ^ axes }
+pub(crate) fn start_of(axes: AxisCount, row: u64) -> u64
+    requires { row < 2 ^ axes.count }
+    ensures is { result ≡ row_start axes.count row }
+    ensures small { result < 2 ^ axes.count }
 {
     if row == 0 {
         return 0;
@@ -61,15 +61,14 @@ pub(crate) fn start_of(axes: u32, row: u64) -> u64
 }
 
 // Their shift is told by how often 2 divides 2i.
-pub(crate) fn shift_of(axes: u32, row: u64) -> u32
-    requires least { 2 ≤ axes }
-    requires most { axes ≤ 8 }
-    requires small { row < 2 ^ axes }
-    ensures is { result ≡ row_shift axes row }
-    ensures small { result < axes }
+pub(crate) fn shift_of(axes: AxisCount, row: u64) -> u32
+    requires { row < 2 ^ axes.count }
+    ensures is { result ≡ row_shift axes.count row }
+    ensures small { result < axes.count }
 {
+    let last = axes.get() - 1;
     if row == 0 {
-        return axes - 1;
+        return last;
     }
-    axes - 1 - (row + row % 2).trailing_zeros() % axes
+    last - (row + row % 2).trailing_zeros() % axes.get()
 }

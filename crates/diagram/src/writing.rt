@@ -1,19 +1,18 @@
-ghost use Rattle.std.specs.Prelude.{◌≡◌, ◌*◌, ◌^◌, ◌≤◌, ◌++◌, length, drop, IfOk, OnOk};
+ghost use Rattle.std.specs.Prelude.{◌≡◌, ◌*◌, ◌^◌, ◌≤◌, ◌++◌, map, length, drop, Contains, IfOk, OnOk};
 ghost use Rattle.grid.specs.Answers.{refusal, unless};
-ghost use Rattle.diagram.specs.Diagrams.{diagram_refusal, Noted};
+ghost use Rattle.diagram.specs.Diagrams.{diagram_refusal, entry_of};
 ghost use Rattle.diagram.specs.Diagrams.{entries as diagram_entries};
 ghost use Rattle.diagram.specs.Meetings.{OneNumbering};
-ghost use Rattle.diagram.specs.Rows.{x2};
-ghost use Rattle.diagram.specs.States.{most_states};
+ghost use Rattle.diagram.specs.States.{below, most_states};
 ghost use Rattle.diagram.specs.States.{states as numbered_states};
 
 use crate::entry::Entry;
-use crate::numbered::{digits, next_by, number_states, slot};
+use crate::numbered::Numbers;
 use crate::pair::Pair;
-use crate::room::diagram_room;
-use crate::seen::point_in;
-use crate::sequence::extend;
-use grid::Refusal;
+use crate::room::DiagramRoom;
+use crate::sequence::Sequence;
+use crate::state::State;
+use grid::{AxisCount, Refusal};
 
 // Writes the diagram of that many axes at the front of two lists, the states by number and their entries by state and digit, and answers how many states there are.
 pub fn write_diagram(axes: u32, states: &mut [Pair], entries: &mut [Entry]) -> Result<u32, Refusal>
@@ -23,7 +22,8 @@ pub fn write_diagram(axes: u32, states: &mut [Pair], entries: &mut [Entry]) -> R
     ensures entries { entries.new ≡ unless (refusal result) (diagram_entries axes ++ drop (length (numbered_states axes) * 2 ^ axes) entries.old) entries.old }
     ensures numbered { OnOk result (OneNumbering axes) }
 {
-    let need = diagram_room(axes)?;
+    let axes = AxisCount::try_from(axes)?;
+    let need = DiagramRoom::new(axes);
     if states.len() < need.states {
         return Err(Refusal::Space { need: need.states });
     }
@@ -34,43 +34,50 @@ pub fn write_diagram(axes: u32, states: &mut [Pair], entries: &mut [Entry]) -> R
 }
 
 // The states, then their entries, where there is room for both.
-fn write_both(axes: u32, states: &mut [Pair], entries: &mut [Entry]) -> u32
-    requires least { 2 ≤ axes }
-    requires most { axes ≤ 8 }
-    requires states { most_states axes ≤ length states.old }
-    requires entries { most_states axes * 2 ^ axes ≤ length entries.old }
-    ensures count { result ≡ length (numbered_states axes) }
-    ensures states { states.new ≡ numbered_states axes ++ drop (length (numbered_states axes)) states.old }
-    ensures entries { entries.new ≡ diagram_entries axes ++ drop (length (numbered_states axes) * 2 ^ axes) entries.old }
+fn write_both(axes: AxisCount, states: &mut [Pair], entries: &mut [Entry]) -> u32
+    requires states { most_states axes.count ≤ length states.old }
+    requires entries { most_states axes.count * 2 ^ axes.count ≤ length entries.old }
+    ensures count { result ≡ length (numbered_states axes.count) }
+    ensures states { states.new ≡ numbered_states axes.count ++ drop (length (numbered_states axes.count)) states.old }
+    ensures entries { entries.new ≡ diagram_entries axes.count ++ drop (length (numbered_states axes.count) * 2 ^ axes.count) entries.old }
 {
-    let mut sequence = [0; 512];
-    let long = extend(axes, &mut sequence);
-    let rows = &sequence[0..long];
-    let mut notes = [0; 2048];
-    let count = number_states(axes, rows, states, &mut notes);
-    write_entries(axes, rows, &states[0..count], &notes, entries);
+    let sequence = Sequence::new(axes);
+    let numbers = Numbers::new(&sequence, states);
+    let count = numbers.count();
+    write_entries(&sequence, &numbers, &states[..count], entries);
     count as u32
 }
 
-fn write_entries(axes: u32, rows: &[u8], states: &[Pair], notes: &[u16], entries: &mut [Entry])
-    requires least { 2 ≤ axes }
-    requires most { axes ≤ 8 }
-    requires rows { rows.now ≡ x2 axes }
-    requires states { states.now ≡ numbered_states axes }
-    requires notes { length notes.now ≡ 2048 }
-    requires noted { Noted axes (numbered_states axes) notes.now }
-    requires room { length states.now * 2 ^ axes ≤ length entries.old }
-    ensures { entries.new ≡ diagram_entries axes ++ drop (length states.now * 2 ^ axes) entries.old }
+// The entries of all states, where the states are written and numbered.
+fn write_entries(sequence: &Sequence, numbers: &Numbers, states: &[Pair], entries: &mut [Entry])
+    requires axes { numbers.now.axes ≡ sequence.now.axes }
+    requires states { states.now ≡ numbered_states sequence.now.axes.count }
+    requires room { length states.now * 2 ^ sequence.now.axes.count ≤ length entries.old }
+    ensures { entries.new ≡ diagram_entries sequence.now.axes.count ++ drop (length states.now * 2 ^ sequence.now.axes.count) entries.old }
 {
-    let width = digits(axes);
-    for number in 0..states.len() {
-        let state = states[number];
-        for digit in 0..width {
-            let next = next_by(axes, rows, state, digit);
-            entries[number * width as usize + digit as usize] = Entry {
-                point: point_in(axes, state, digit) as u8,
-                next: notes[slot(axes, next)],
-            };
-        }
+    let axes = sequence.axes;
+    let width = axes.points() as usize;
+    // Each row by its place: of what chunks_exact_mut lends nothing is known afterwards.
+    for (number, pair) in states.iter().enumerate() {
+        let state = State { axes, pair: *pair };
+        let row = number * width;
+        write_row(sequence, numbers, state, &mut entries[row..row + width]);
+    }
+}
+
+// The entries of one state.
+fn write_row(sequence: &Sequence, numbers: &Numbers, state: State, row: &mut [Entry])
+    requires axes { sequence.now.axes ≡ state.axes }
+    requires numbers { numbers.now.axes ≡ state.axes }
+    requires known { Contains (numbered_states state.axes.count) state.pair }
+    requires long { length row.old ≡ 2 ^ state.axes.count }
+    ensures { row.new ≡ map (entry_of state.axes.count (numbered_states state.axes.count) state.pair) (below (2 ^ state.axes.count)) }
+{
+    for (place, entry) in row.iter_mut().enumerate() {
+        let digit = place as u32;
+        *entry = Entry {
+            point: state.point(digit) as u8,
+            next: numbers.of(sequence.next(state, digit)),
+        };
     }
 }
