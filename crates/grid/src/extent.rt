@@ -3,6 +3,7 @@ ghost use Rattle.grid.specs.Grids.{grid_side, grid_size, grid_refusal, cell_chec
 ghost use Rattle.grid.specs.Answers.{refusal};
 ghost use Rattle.grid.specs.Axes.{lowest};
 
+use crate::axis_count::AxisCount;
 use crate::grid::Grid;
 use crate::refusal::Refusal;
 
@@ -25,6 +26,12 @@ impl Grid {
         ensures { result ≡ self.axes }
     {
         self.axes
+    }
+
+    pub fn axis_count(self) -> AxisCount
+        ensures { result.count ≡ self.axes }
+    {
+        AxisCount { count: self.axes }
     }
 
     pub fn order(self) -> u32
