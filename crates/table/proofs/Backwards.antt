@@ -1,21 +1,25 @@
 -- A table read backwards: an entry at a time, and what it then answers.
 use Rattle.std.proofs.Common.{◌≡◌, ℕ, ◌+◌, ◌*◌, ◌^◌, ◌<◌, ◌≤◌, ◌≢◌, List, length, get_or, set, sym, ap, ◌∙◌, subst, ap₂, ⊎_elim, arith, length-set, get_or-set_other, get_or-set_same}
-use lib.Arith.{digits_lt}
+use Rattle.std.proofs.Math.Arith.{digits_lt}
 use Rattle.std.proofs.lemmas.Bool.{cases_eq}
 use Rattle.diagram.specs.declared.entry.Entry.{Entry}
-use Rattle.table.specs.Installed.{Undoes, Undone}
+use Rattle.table.specs.Installed.{Undone}
 use Rattle.table.specs.Rules.{EachOnce}
-use Rattle.table.specs.Tables.{entry_at, point_at_digit}
-use Rattle.table.proofs.InRows.{same_place}
+use Rattle.table.specs.Tables.{point_at_digit}
+use Rattle.std.proofs.lemmas.List.{get_or_read}
+use Rattle.std.proofs.lemmas.Nat.{same_from_place}
 
--- The entries before a place are undone.
-pub record UndoneBefore (n m : ℕ) (t : List Entry) (place : ℕ) (digits : List ℕ) : Type 0 where
+-- The entries before that of the digit e in the state r are undone.
+pub record UndoneBefore (n m : ℕ) (t : List Entry) (r e : ℕ) (digits : List ℕ) : Type 0 where
   pub long : length digits ≡ m * 2 ^ n
-  pub reads : (s d : ℕ) → s < m → d < 2 ^ n → s * 2 ^ n + d < place → get_or digits (s * 2 ^ n + point_at_digit n t s d) 0 ≡ d
+  pub reads : (s d : ℕ) → s < m → d < 2 ^ n → s * 2 ^ n + d < r * 2 ^ n + e → get_or digits (s * 2 ^ n + point_at_digit n t s d) 0 ≡ d
 
-pub all_undone : {n m i : ℕ} {t : List Entry} {digits : List ℕ} → m ≤ i → UndoneBefore n m t (i * 2 ^ n) digits → Undone n m t digits
-all_undone {n} {m} {i} all before =
-    (before.long, λ s d h. let l : s < i = omega arith in before.reads s d h.0 h.1 (digits_lt l h.1))
+pub row_undone : {n m r e s : ℕ} {t : List Entry} {digits : List ℕ} → UndoneBefore n m t r e digits → e ≡ 2 ^ n → s ≡ r + 1 → UndoneBefore n m t s 0 digits
+row_undone {n} before whole next = rw next (record { long = before.long; reads = λ s d hs hd h. before.reads s d hs hd (omega arith) })
+
+pub all_undone : {n m r : ℕ} {t : List Entry} {digits : List ℕ} → UndoneBefore n m t r 0 digits → m ≤ r → Undone n m t digits
+all_undone {n} {m} {r} before all =
+    (before.long, λ s d h. let l : s < r = omega arith in before.reads s d h.0 h.1 (omega (arith, digits_lt l h.1)))
 
 module _ {n m : ℕ} {t : List Entry} (once : EachOnce n m t) where
   abbrev point : ℕ → ℕ → ℕ
@@ -24,43 +28,42 @@ module _ {n m : ℕ} {t : List Entry} (once : EachOnce n m t) where
   -- different entries are written to different places
   apart : (r e s d : ℕ) → r < m → e < 2 ^ n → s < m → d < 2 ^ n → r * 2 ^ n + e ≢ s * 2 ^ n + d → r * 2 ^ n + point r e ≢ s * 2 ^ n + point s d
   apart r e s d hr he hs hd other same =
-      let places = same_place r s (point r e) (point s d) (2 ^ n) (once.inside r e hr he) (once.inside s d hs hd) same in
+      let places = same_from_place r (point r e) s (point s d) (2 ^ n) (once.inside r e hr he) (once.inside s d hs hd) same in
       let digit : e ≡ d = once.only s e d hs he hd (ap (λ (q : ℕ). point q e) (sym places.0) ∙ places.1) in
       other (ap₂ (λ (q f : ℕ). q * 2 ^ n + f) places.0 digit)
 
   -- writing the digit d at the place of its n-point, which was read
-  module _ {digits : List ℕ} {s d place : ℕ} {here : Entry} (hs : s < m) (hd : d < 2 ^ n) (read : here ≡ entry_at n t s d) (at : place ≡ s * 2 ^ n + here.point)
-      (before : UndoneBefore n m t (s * 2 ^ n + d) digits) where
-    there : place ≡ s * 2 ^ n + point s d
-    there = at ∙ ap (λ (e : Entry). s * 2 ^ n + e.point) read
-
+  module _ {digits : List ℕ} {s d : ℕ} (before : UndoneBefore n m t s d digits) (hs : s < m) (hd : d < 2 ^ n) (place : ℕ) (at : place ≡ s * 2 ^ n + point s d) where
     pub written_inside : place < length digits
-    written_inside = omega (arith, there, digits_lt hs (once.inside s d hs hd), before.long)
+    written_inside = omega (arith, digits_lt hs (once.inside s d hs hd), before.long)
 
-    pub one_more_undone : UndoneBefore n m t (s * 2 ^ n + (d + 1)) (set digits place d)
+    pub one_more_undone : UndoneBefore n m t s (d + 1) (set digits place d)
     one_more_undone =
         record {
           long = length-set digits place d ∙ before.long;
           reads = λ r e hr he h.
               ⊎_elim
-              (λ same. let is = same_place r s e d (2 ^ n) he hd same in
+              (λ same. let is = same_from_place r e s d (2 ^ n) he hd same in
               ap₂ (λ (q f : ℕ). get_or (set digits place d) (q * 2 ^ n + point q f) 0) is.0 is.1
-              ∙ ap (λ (i : ℕ). get_or (set digits place d) i 0) (sym there)
+              ∙ ap (λ (i : ℕ). get_or (set digits place d) i 0) (sym at)
               ∙ get_or-set_same digits place d 0 written_inside
               ∙ sym is.1)
-              (λ other. get_or-set_other digits place (r * 2 ^ n + point r e) d 0 (λ same. apart r e s d hr he hs hd other (same ∙ there))
+              (λ other. get_or-set_other digits place (r * 2 ^ n + point r e) d 0 (λ same. apart r e s d hr he hs hd other (same ∙ at))
               ∙ before.reads r e hr he (omega arith))
               (cases_eq (r * 2 ^ n + e) (s * 2 ^ n + d));
         }
 
   -- the digit that is read at an n-point has that n-point
-  pub undone_reads : (digits : List ℕ) {s p r : ℕ}
-      → Undoes n m t digits
+  pub undone_reads : {s p r : ℕ} (digits : List ℕ) (place : ℕ)
+      → Undone n m t digits
       → s < m
       → p < 2 ^ n
-      → r ≡ get_or digits (s * 2 ^ n + p) 0
+      → place ≡ s * 2 ^ n + p
+      → r ≡ get_or digits place r
       → (r < 2 ^ n) × (point s r ≡ p)
-  undone_reads digits {s} {p} {r} undoes hs hp read =
+  undone_reads {s} {p} {r} digits place undone hs hp at read =
       let found = once.some s p hs hp in
-      let is : r ≡ found.0 = read ∙ ap (λ (q : ℕ). get_or digits (s * 2 ^ n + q) 0) (sym found.2) ∙ undoes s found.0 (hs, found.1) in
+      let there = at ∙ ap (λ (q : ℕ). s * 2 ^ n + q) (sym found.2) in
+      let is : r ≡ found.0 =
+      get_or_read digits _ _ (omega (arith, digits_lt hs hp, undone.0)) read 0 ∙ ap (λ (i : ℕ). get_or digits i 0) there ∙ undone.1 s found.0 (hs, found.1) in
       (subst (λ (d : ℕ). d < 2 ^ n) (sym is) found.1, ap (point s) is ∙ found.2)

@@ -1,5 +1,6 @@
 mod Backwards
 pub mod DiagramTable
-mod InRows
 mod Marks
+mod Rows
 mod Scan
+mod Tried

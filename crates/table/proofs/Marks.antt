@@ -1,12 +1,12 @@
 -- The marks of the n-points that stand in a row before a digit.
 use Rattle.std.proofs.Common.{◌≡◌, ℕ, ◌+◌, ◌<◌, Bool, true, false, cond, ◌||◌, eqb, List, length, get_or, set, replicate, is_some, Some, None, Option, sym, refl, ap, ◌∙◌, ⊎_elim, add-one, arith, length-set, get_or-set_other, get_or-set_same}
-use lib.ListN.{get_or-replicate}
+use Rattle.std.proofs.lemmas.List.{get_or-replicate}
 use Rattle.std.proofs.lemmas.Bool.{cases_eq, eq-eqb, ne_eqb, or_right}
 use Rattle.arithmetic.specs.Least.{least}
 use Rattle.arithmetic.proofs.Least.{least_none}
 use Rattle.diagram.specs.declared.entry.Entry.{Entry}
 use Rattle.table.specs.Offenders.{stands_before}
-use Rattle.table.specs.Tables.{entry_at, point_at_digit}
+use Rattle.table.specs.Tables.{point_at_digit}
 
 -- The n-points that stand before the digit d are marked, and no other.
 pub record Marked (n : ℕ) (t : List Entry) (s : ℕ) (seen : List Bool) (d : ℕ) : Type 0 where
@@ -24,7 +24,12 @@ or_none : (x y : Bool) → y ≡ false → (x || y) ≡ x
 or_none true y e = refl
 or_none false y e = e
 
-module _ (n : ℕ) (t : List Entry) (s : ℕ) where
+stands_more : (n : ℕ) (t : List Entry) (s d p : ℕ) → stands_before n t s (d + 1) p ≡ (stands_before n t s d p || eqb (point_at_digit n t s d) p)
+unfolding least
+stands_more n t s d p =
+    ap (λ k. stands_before n t s k p) (add-one d) ∙ some_more d (least d (λ e. eqb (point_at_digit n t s e) p)) (eqb (point_at_digit n t s d) p)
+
+module _ {n : ℕ} {t : List Entry} {s : ℕ} where
   pub none_marked : Marked n t s (replicate 256 false) 0
   none_marked =
       record {
@@ -32,21 +37,11 @@ module _ (n : ℕ) (t : List Entry) (s : ℕ) where
         marks = λ p h. get_or-replicate 256 p false false h ∙ sym (ap is_some (least_none (λ e. eqb (point_at_digit n t s e) p)));
       }
 
-  stands_more : (d p : ℕ) → stands_before n t s (d + 1) p ≡ (stands_before n t s d p || eqb (point_at_digit n t s d) p)
-  unfolding least
-  stands_more d p =
-      ap (λ k. stands_before n t s k p) (add-one d) ∙ some_more d (least d (λ e. eqb (point_at_digit n t s e) p)) (eqb (point_at_digit n t s d) p)
-
-  -- marking the n-point of d, which was read
-  pub one_more_marked : (seen : List Bool) (d : ℕ) (here : Entry)
-      → here ≡ entry_at n t s d
-      → here.point < 256
-      → Marked n t s seen d
-      → Marked n t s (set seen here.point true) (d + 1)
-  one_more_marked seen d here read small before =
-      let q = here.point in
+  -- marking the n-point of d
+  pub one_more_marked : {seen : List Bool} {d q : ℕ} → Marked n t s seen d → q ≡ point_at_digit n t s d → q < 256 → Marked n t s (set seen q true) (d + 1)
+  one_more_marked {seen} {d} {q} before is small =
       let stands : (p : ℕ) → stands_before n t s (d + 1) p ≡ (stands_before n t s d p || eqb q p) =
-      λ p. stands_more d p ∙ ap (λ (e : Entry). stands_before n t s d p || eqb e.point p) (sym read) in
+      λ p. stands_more n t s d p ∙ ap (λ (k : ℕ). stands_before n t s d p || eqb k p) (sym is) in
       record {
         long = length-set seen q true ∙ before.long;
         marks = λ p h.

@@ -1,39 +1,46 @@
 -- The scan for a rule's first offender, a state and a digit at a time.
-use Rattle.std.proofs.Common.{◌≡◌, ℕ, ◌+◌, ◌*◌, ◌/◌, ◌%◌, ◌^◌, ◌<◌, Bool, true, false, List, Some, None, sym, ap, ◌∙◌, ap₂, add-zero, add_assoc, zero-mul}
-use lib.Arith.{digits_div, digits_mod, digits_lt}
+use Rattle.std.proofs.Common.{◌≡◌, ℕ, ◌+◌, ◌*◌, ◌/◌, ◌%◌, ◌^◌, ◌<◌, ◌≤◌, Bool, true, false, List, Some, None, sym, ap, ◌∙◌, ap₂, arith, mul-le-mul_right}
+use Rattle.std.proofs.Math.Arith.{digits_div, digits_mod, digits_lt}
 use Rattle.arithmetic.specs.Least.{least}
-use Rattle.arithmetic.proofs.Least.{least_none, least_more, least_here}
+use Rattle.arithmetic.proofs.Least.{least_none, least_more, least_here, least_tells, least_nowhere}
 use Rattle.diagram.specs.declared.entry.Entry.{Entry}
 use Rattle.table.specs.declared.rule.Rule.{Rule}
 use Rattle.table.specs.Offenders.{offends, first_offender, place_of}
 
-module _ (rule : Rule) (n m : ℕ) (t : List Entry) where
-  -- the entry at a place of the list breaks the rule
-  abbrev pub breaks_at : ℕ → Bool
-  breaks_at i = offends rule n m t (i / 2 ^ n) (i % 2 ^ n)
+-- the entry at a place of the list breaks the rule
+abbrev breaks_at : Rule → ℕ → ℕ → List Entry → ℕ → Bool
+breaks_at rule n m t i = offends rule n m t (i / 2 ^ n) (i % 2 ^ n)
 
-  -- no entry of the first i breaks the rule
-  abbrev pub Passed : ℕ → Type 0
-  Passed i = least i breaks_at ≡ None
+-- No entry before that of the digit d in the state s breaks the rule.
+pub record Passed (rule : Rule) (n m : ℕ) (t : List Entry) (s d : ℕ) : Type 0 where
+  none : least (s * 2 ^ n + d) (breaks_at rule n m t) ≡ None
 
-  at_place : (s d : ℕ) → d < 2 ^ n → breaks_at (s * 2 ^ n + d) ≡ offends rule n m t s d
-  at_place s d h = ap₂ (offends rule n m t) (digits_div s h) (digits_mod s h)
+at_place : (rule : Rule) (n m : ℕ) (t : List Entry) (s d : ℕ) → d < 2 ^ n → breaks_at rule n m t (s * 2 ^ n + d) ≡ offends rule n m t s d
+at_place rule n m t s d small = ap₂ (offends rule n m t) (digits_div s small) (digits_mod s small)
 
-  pub scan_begins : Passed (0 * 2 ^ n)
-  scan_begins = rw zero-mul (least_none breaks_at)
+module _ {rule : Rule} {n m : ℕ} {t : List Entry} where
+  pub scan_begins : {s : ℕ} → s ≡ 0 → Passed rule n m t s 0
+  scan_begins {s} e = rw e (record { none = ap (λ (i : ℕ). least i (breaks_at rule n m t)) (omega arith) ∙ least_none (breaks_at rule n m t) })
 
-  pub row_begins : (s : ℕ) → Passed (s * 2 ^ n) → Passed (s * 2 ^ n + 0)
-  row_begins s p = rw add-zero p
+  pub digit_passes : {s d : ℕ} → Passed rule n m t s d → d < 2 ^ n → false ≡ offends rule n m t s d → Passed rule n m t s (d + 1)
+  digit_passes {s} {d} p small f =
+      let more = least_more (breaks_at rule n m t) (s * 2 ^ n + d) p.none (at_place rule n m t s d small ∙ sym f) in
+      record { none = ap (λ (i : ℕ). least i (breaks_at rule n m t)) (omega arith) ∙ more }
 
-  pub digit_passes : (s d : ℕ) → d < 2 ^ n → Passed (s * 2 ^ n + d) → false ≡ offends rule n m t s d → Passed (s * 2 ^ n + (d + 1))
-  digit_passes s d h p f = rw (← add_assoc (s * 2 ^ n) d 1) (least_more breaks_at (s * 2 ^ n + d) p (at_place s d h ∙ sym f))
+  pub row_passes : {s d r : ℕ} → Passed rule n m t s d → d ≡ 2 ^ n → r ≡ s + 1 → Passed rule n m t r 0
+  row_passes {s} {d} {r} p long next =
+      rw next (record { none = ap (λ (i : ℕ). least i (breaks_at rule n m t)) (omega arith) ∙ p.none })
 
-  pub digit_breaks : (s d : ℕ)
-      → s < m
-      → d < 2 ^ n
-      → Passed (s * 2 ^ n + d)
-      → true ≡ offends rule n m t s d
-      → first_offender rule n m t ≡ Some (record { state = s; digit = d })
-  digit_breaks s d l h p f =
-      ap (place_of n) (least_here breaks_at (m * 2 ^ n) (s * 2 ^ n + d) (digits_lt l h) p (at_place s d h ∙ sym f))
-      ∙ ap₂ (λ q r. Some (record { state = q; digit = r })) (digits_div s h) (digits_mod s h)
+  pub digit_breaks : {s d : ℕ} → Passed rule n m t s d → s < m → d < 2 ^ n → true ≡ offends rule n m t s d → Some (record { state = s; digit = d }) ≡ first_offender rule n m t
+  digit_breaks {s} {d} p within small f =
+      let here = at_place rule n m t s d small ∙ sym f in
+      sym
+      (ap (place_of n) (least_here (breaks_at rule n m t) (m * 2 ^ n) (s * 2 ^ n + d) (digits_lt within small) p.none here)
+      ∙ ap₂ (λ q r. Some (record { state = q; digit = r })) (digits_div s small) (digits_mod s small))
+
+  pub all_pass : {s : ℕ} → Passed rule n m t s 0 → m ≤ s → None ≡ first_offender rule n m t
+  all_pass {s} p all =
+      let rows = mul-le-mul_right (2 ^ n) all in
+      sym
+      (ap (place_of n)
+      (least_nowhere (breaks_at rule n m t) (m * 2 ^ n) (λ i h. least_tells (breaks_at rule n m t) (s * 2 ^ n + 0) i (omega arith) p.none)))

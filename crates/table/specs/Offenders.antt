@@ -1,6 +1,7 @@
 -- The entry that breaks a rule: the first one, by state and then by digit.
 --
 -- stands_before    — an n-point stands in the row before a digit
+-- point_repeated   — that of the digit itself does
 -- offends          — the entry of a digit in a state breaks a rule; for rules 6 and 8 it is the lower of two digits
 -- first_offender   — the first entry that does
 use Rattle.std.specs.Prelude.{ℕ, suc, ◌*◌, ◌/◌, ◌%◌, ◌^◌, Bool, not, ◌&&◌, ◌||◌, List, is_some, Some, None, Option, ◌==◌, bit_and, bit_xor, count_ones, nat_eq, nat_le, nat_lt}
@@ -15,6 +16,9 @@ use Rattle.table.specs.Tables.{point_at_digit, next_at_digit}
 abbrev pub stands_before : ℕ → List Entry → ℕ → ℕ → ℕ → Bool
 stands_before n t s d p = is_some (least d (λ e. nat_eq (point_at_digit n t s e) p))
 
+abbrev pub point_repeated : ℕ → List Entry → ℕ → ℕ → Bool
+point_repeated n t s d = stands_before n t s d (point_at_digit n t s d)
+
 -- The bits in which the n-points of d and d + 1 differ.
 abbrev pub bits_changed : ℕ → List Entry → ℕ → ℕ → ℕ
 bits_changed n t s d = bit_xor (point_at_digit n t s d) (point_at_digit n t s (suc d))
@@ -24,7 +28,7 @@ abbrev pub has_bits : ℕ → ℕ → Bool
 has_bits x b = bit_and x b == b
 
 abbrev pub offends : Rule → ℕ → ℕ → List Entry → ℕ → ℕ → Bool
-offends Points n m t s d = nat_le (2 ^ n) (point_at_digit n t s d) || stands_before n t s d (point_at_digit n t s d)
+offends Points n m t s d = nat_le (2 ^ n) (point_at_digit n t s d) || point_repeated n t s d
 offends NextStates n m t s d = nat_le m (next_at_digit n t s d)
 offends Neighbours n m t s d = nat_lt (suc d) (2 ^ n) && not (count_ones (bits_changed n t s d) == 1)
 offends Corners n m t s d =

@@ -2,32 +2,20 @@
 
 #![tactic(auto)]
 
+// An entry by its state and its digit, and where it stands.
+mod place;
 // The rules that a table keeps.
 mod rule;
-// An entry by its state and its digit.
-mod place;
-// Where an entry stands in its list, and reading it.
-mod reading;
-// Whether an entry breaks a rule.
-mod offence;
-// The first entry that does.
-mod offender;
+// A list read as a table, by rows and backwards; the first entry that breaks a rule.
+mod table_view;
 // The check of a table.
 mod checking;
 // The built-in table.
 mod four;
-// A table read backwards.
-mod undoing;
-// The numbering by a table.
+// The diagram as a table.
+mod diagram_table;
+// The numbering by a table: making one, installing another, the machine that it follows and its calls.
 mod table_numbering;
-// Making one, installing another table, and what is installed.
-mod installing;
-// Installing a diagram.
-mod diagrams;
-// The machine that it follows.
-mod table_machine;
-// Its calls.
-mod table_calls;
 
 pub use checking::check;
 pub use four::{FOUR_STATES, four_states};
