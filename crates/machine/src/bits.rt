@@ -1,22 +1,23 @@
 ghost use Rattle.std.specs.Prelude.{◌≡◌, ℕ, ◌+◌, ◌*◌, ◌/◌, ◌%◌, ◌^◌, ◌<◌, ◌≤◌, length, slice_index};
 ghost use Rattle.machine.specs.Machines.{point_at};
 
+use grid::AxisCount;
+
 // The digit of a key behind which there are `left` others.
-pub(crate) fn digit_of(key: u64, axes: u32, left: u32) -> u32
-    requires axes { axes ≤ 8 }
-    requires bits { axes * left ≤ 60 }
-    ensures is { result ≡ key / 2 ^ (axes * left) % 2 ^ axes }
+pub(crate) fn digit_of(key: u64, axes: AxisCount, left: u32) -> u32
+    requires { axes.count * left ≤ 60 }
+    ensures { result ≡ key / 2 ^ (axes.count * left) % 2 ^ axes.count }
 {
-    ((key >> (axes * left)) & ((1 << axes) - 1)) as u32
+    let lowest = u64::from(axes.points() - 1);
+    ((key >> (axes.get() * left)) & lowest) as u32
 }
 
 // A key with one more digit.
-pub(crate) fn with_digit(key: u64, axes: u32, digit: u32) -> u64
-    requires axes { axes ≤ 8 }
-    requires fits { key * 2 ^ axes + digit < 2 ^ 60 }
-    ensures { result ≡ key * 2 ^ axes + digit }
+pub(crate) fn with_digit(key: u64, axes: AxisCount, digit: u32) -> u64
+    requires { key * 2 ^ axes.count + digit < 2 ^ 60 }
+    ensures { result ≡ key * 2 ^ axes.count + digit }
 {
-    (key << axes) + digit as u64
+    (key << axes.get()) + u64::from(digit)
 }
 
 fn bit(x: u32, place: u32) -> u32

@@ -17,7 +17,7 @@ pub(crate) fn to_cell<M: Machine>(m: &M, key: u64, list: &mut [u32])
     list.fill(0);
     let mut state = m.first();
     for left in (0..grid.order()).rev() {
-        let digit = digit_of(key, grid.axes(), left);
+        let digit = digit_of(key, grid.axis_count(), left);
         append(list, m.point(state, digit));
         state = m.next(state, digit);
     }
@@ -33,7 +33,7 @@ pub(crate) fn to_key<M: Machine>(m: &M, list: &[u32]) -> u64
     let mut state = m.first();
     for place in (0..grid.order()).rev() {
         let digit = m.digit(state, gather(list, place));
-        key = with_digit(key, grid.axes(), digit);
+        key = with_digit(key, grid.axis_count(), digit);
         state = m.next(state, digit);
     }
     key

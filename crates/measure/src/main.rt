@@ -6,15 +6,12 @@ use diagram::Reckoned;
 use grid::Refusal;
 use numbering::Numbering;
 use std::env;
+use std::rt::Clock;
 use std::time::{Duration, Instant};
 use table::TableNumbering;
 
 fn main(rt: HostRuntime) -> anyhow::Result<()> {
-    run(&rt)
-}
-
-fn run(rt: &HostRuntime) -> anyhow::Result<()> {
-    let Some(rounds) = env::args(rt)?.nth(1) else {
+    let Some(rounds) = env::args(&rt)?.nth(1) else {
         return Ok(println!(rt; "usage: measure ROUNDS")?);
     };
     let rounds = rounds.parse::<u64>()?;
@@ -25,15 +22,15 @@ fn run(rt: &HostRuntime) -> anyhow::Result<()> {
         let mut reckoned = Reckoned::new();
         reckoned.set(axes, order)?;
         print!(rt; "{axes:>4} {order:>5}")?;
-        time(rt, &table, rounds)?;
-        time(rt, &reckoned, rounds)?;
+        time(&rt, &table, rounds)?;
+        time(&rt, &reckoned, rounds)?;
         println!(rt; "")?;
     }
     Ok(())
 }
 
 // Prints the nanoseconds for a cell and for a key.
-fn time<N: Numbering>(rt: &HostRuntime, numbering: &N, rounds: u64) -> anyhow::Result<()> {
+fn time<N: Numbering>(rt: &(impl Print + Clock), numbering: &N, rounds: u64) -> anyhow::Result<()> {
     let start = Instant::now(rt)?;
     let cells = cells(numbering, rounds)?;
     let cell_time = per_round(start.elapsed(rt)?, rounds);

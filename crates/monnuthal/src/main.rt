@@ -15,24 +15,20 @@ use std::env;
 use tool::print_diagram;
 
 fn main(rt: HostRuntime) -> anyhow::Result<()> {
-    run(&rt)
-}
-
-fn run(rt: &HostRuntime) -> anyhow::Result<()> {
-    let mut words = env::args(rt)?;
+    let mut words = env::args(&rt)?;
     // The program's own name.
     let _ = words.next();
     let Some(command) = words.next() else {
-        return file_and_search(rt);
+        return file_and_search(&rt);
     };
     match (command.as_str(), words.next(), words.next()) {
-        ("diagram", Some(axes), None) => print_diagram(rt, axes.parse::<u32>()?),
+        ("diagram", Some(axes), None) => print_diagram(&rt, axes.parse::<u32>()?),
         _ => Err(anyhow!("usage: monnuthal [diagram AXES]")),
     }
 }
 
 // The archive: filed, listed and searched.
-fn file_and_search(rt: &HostRuntime) -> anyhow::Result<()> {
+fn file_and_search(rt: &(impl Print + AllocGlobal)) -> anyhow::Result<()> {
     let mut z_order = ZOrder::new();
     z_order.set(survey::AXES, survey::ORDER)?;
     let mut numbering = Reckoned::new();

@@ -8,7 +8,7 @@ use std::io;
 
 // The records as they came, each with its cell and its key on both curves.
 pub(crate) fn records<N: Numbering, M: Numbering>(
-    rt: &HostRuntime,
+    rt: &impl Print,
     hilbert: &N,
     z_order: &M,
     soundings: &[Sounding],
@@ -43,7 +43,7 @@ pub(crate) fn records<N: Numbering, M: Numbering>(
 }
 
 // The table in key order.
-pub(crate) fn table(rt: &HostRuntime, table: &[Row], soundings: &[Sounding]) -> io::Result<()> {
+pub(crate) fn table(rt: &impl Print, table: &[Row], soundings: &[Sounding]) -> io::Result<()> {
     println!(rt; "")?;
     println!(rt; "The table, in the order of the Hilbert keys")?;
     list(rt, table, soundings)
@@ -51,7 +51,7 @@ pub(crate) fn table(rt: &HostRuntime, table: &[Row], soundings: &[Sounding]) -> 
 
 // A box, and the rows in it.
 pub(crate) fn rows(
-    rt: &HostRuntime,
+    rt: &impl Print,
     wanted: GridBox,
     found: &[Row],
     soundings: &[Sounding],
@@ -66,7 +66,7 @@ pub(crate) fn rows(
     list(rt, found, soundings)
 }
 
-fn list(rt: &HostRuntime, rows: &[Row], soundings: &[Sounding]) -> io::Result<()> {
+fn list(rt: &impl Print, rows: &[Row], soundings: &[Sounding]) -> io::Result<()> {
     println!(rt; "    key  no  station")?;
     for row in rows {
         let key = row.key;
@@ -81,7 +81,7 @@ fn list(rt: &HostRuntime, rows: &[Row], soundings: &[Sounding]) -> io::Result<()
 
 // The keys above and below each row along the depth.
 pub(crate) fn neighbours<N: Numbering>(
-    rt: &HostRuntime,
+    rt: &impl Print,
     numbering: &N,
     rows: &[Row],
 ) -> io::Result<()> {
@@ -99,7 +99,7 @@ pub(crate) fn neighbours<N: Numbering>(
 }
 
 fn beside<N: Numbering>(
-    rt: &HostRuntime,
+    rt: &impl Print,
     numbering: &N,
     key: u64,
     direction: Direction,
@@ -111,7 +111,7 @@ fn beside<N: Numbering>(
 }
 
 // Every step on a small grid of 2, 3 and 4 axes.
-pub(crate) fn faces(rt: &HostRuntime) -> anyhow::Result<()> {
+pub(crate) fn faces(rt: &impl Print) -> anyhow::Result<()> {
     println!(rt; "")?;
     println!(rt; "Consecutive keys, step by step")?;
     for axes in 2u32..5 {

@@ -5,17 +5,13 @@
 use tool::print_diagram;
 
 fn main(rt: HostRuntime) -> anyhow::Result<()> {
-    run(&rt)
-}
-
-fn run(rt: &HostRuntime) -> anyhow::Result<()> {
     for axes in 2u32..4 {
         println!(rt; "diagram {axes}")?;
-        print_diagram(rt, axes)?;
+        print_diagram(&rt, axes)?;
     }
     for axes in [1u32, 9] {
         println!(rt; "diagram {axes}")?;
-        if let Err(error) = print_diagram(rt, axes) {
+        if let Err(error) = print_diagram(&rt, axes) {
             println!(rt; "{error}")?;
         }
     }

@@ -2,7 +2,7 @@ use crate::table_text::Row;
 use diagram::{Entry, Pair, diagram_room, write_diagram};
 
 // Prints the diagram of that many axes: the number of axes and of states, then a line for each state.
-pub fn print_diagram(rt: &HostRuntime, axes: u32) -> anyhow::Result<()> {
+pub fn print_diagram(rt: &(impl Print + AllocGlobal), axes: u32) -> anyhow::Result<()> {
     let heap = rt.alloc();
     let room = diagram_room(axes)?;
     let mut states = vec![in heap; Pair { start: 0, shift: 0 }; room.states]?;
@@ -11,7 +11,14 @@ pub fn print_diagram(rt: &HostRuntime, axes: u32) -> anyhow::Result<()> {
     println!(rt; "{axes} {count}")?;
     let rows = entries.as_slice().chunks(1 << axes);
     for (state, entries) in rows.take(count as usize).enumerate() {
-        println!(rt; "{}", Row { axes, state, entries })?;
+        println!(rt;
+            "{}",
+            Row {
+                axes,
+                state,
+                entries
+            }
+        )?;
     }
     Ok(())
 }

@@ -1,10 +1,12 @@
-use Rattle.std.proofs.Common.{ℕ, ◌-◌, ◌*◌, ◌/◌, ◌^◌, ap, ◌∙◌, arith}
+use Rattle.std.proofs.Common.{ℕ, ◌-◌, ◌*◌, ◌/◌, ◌^◌, ap, ◌∙◌}
 use lib.Bits.{bit_and}
-use Rattle.std.proofs.lemmas.Nat.{and_mask, one_shl}
+use Rattle.std.proofs.lemmas.Nat.{and_mask}
 use Rattle.machine.proofs.bits.digit_of.Goals as goal
 
 pub returns : goal.returns
 returns c =
-    let n = c.args.axes in
+    let n = c.args.axes.count in
     let q = c.args.key / 2 ^ (n * c.args.left) in
-    record { is = ap (λ (x : ℕ). bit_and q (x - 1)) (one_shl n 64 (omega arith)) ∙ and_mask q n }
+    ap (λ (g : ℕ). bit_and (c.args.key / 2 ^ (g * c.args.left)) c.from-lowest.result) c.get.ensures
+    ∙ ap (λ (x : ℕ). bit_and q x) (c.from-lowest.ensures ∙ ap (λ (p : ℕ). p - 1) c.points.ensures.is)
+    ∙ and_mask q n

@@ -16,5 +16,5 @@ append-requires-clause-small g c i li =
 
 pub loop-left-preserved : goal.loop-left-preserved
 loop-left-preserved g c =
-    going_more two_pos (g.met.M.Machine.exact c.args.m.now) c.loop-left.invariant (omega arith) (c.axes.ensures ∙ c.grid-grid.ensures.axes)
-    c.digit_of-digit.ensures.is c.point.ensures c.next-state.ensures c.append.auto.cell c.append.ensures
+    going_more two_pos (g.met.M.Machine.exact c.args.m.now) c.loop-left.invariant (omega arith) (c.axis_count.ensures ∙ c.grid-grid.ensures.axes)
+    c.digit_of-digit.ensures c.point.ensures c.next-state.ensures c.append.auto.cell c.append.ensures
