@@ -8,7 +8,8 @@ use crate::refusal::Refusal;
 
 // The cells between two corners, ends included. The places past the axes hold 0.
 // Eight places for each corner, whatever the axes: a box is a plain value and needs no heap.
-#[derive(Clone, Copy, PartialEq, Eq, Debug)]
+// It has no `==`: of a derived one on arrays the check can tell nothing.
+#[derive(Clone, Copy, Debug)]
 pub struct GridBox {
     pub(crate) axes: u32,
     pub(crate) low: [u32; 8],

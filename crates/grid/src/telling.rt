@@ -6,7 +6,7 @@ use crate::refusal::Refusal;
 use std::error::Error;
 use std::fmt;
 
-// What a refusal tells: nothing, one number or two.
+// What a refusal tells: nothing, one number or two. An enum of its own, since of two Options the second could stand alone.
 #[derive(Clone, Copy, PartialEq, Eq, Debug)]
 pub enum Told {
     Nothing,

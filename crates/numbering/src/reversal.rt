@@ -7,6 +7,7 @@ use crate::unbroken::Unbroken;
 use grid::{Grid, Refusal, Step};
 
 // Key c has the cell of the inner numbering's key N - 1 - c.
+// Not a `Turned`: that changes cells and keeps their keys, and a trait for both would give each an empty half.
 #[derive(Drop)]
 pub struct Reversal<N: Numbering> {
     inner: N,

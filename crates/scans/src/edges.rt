@@ -29,7 +29,7 @@ fn limits(rt: HostRuntime) -> Result<(), Fail> {
             &rt,
             Grid::new(axes, *most + 1),
             9,
-            Told::One(*most as u64 + 1),
+            Told::One(u64::from(*most) + 1),
         )?;
         refused(&rt, Grid::new(axes, 0), 9, Told::One(0))?;
     }

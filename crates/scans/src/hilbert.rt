@@ -96,7 +96,7 @@ fn reckoned(axes: u32, order: u32) -> Result<Reckoned, Fail> {
     Ok(numbering)
 }
 
-// The cell of a key, zeros behind it.
+// The cell of a key, zeros behind it: the slice of an array, as wherever no heap is at hand.
 fn cell<N: Numbering>(numbering: &N, key: u64) -> Result<[u32; 8], Fail> {
     let mut places = [0u32; 8];
     numbering.cell_of(key, &mut places[0..numbering.axes() as usize])?;

@@ -112,6 +112,7 @@ impl TableNumbering {
         self.entries.as_slice()
     }
 
+    // Not by a `TableView`, whose reading tests at each digit whether the list has the entry.
     fn entry(&self, state: u32, digit: u32) -> Entry
         requires state { state < self.now.states }
         requires digit { digit < 2 ^ self.now.grid.axes }
@@ -175,6 +176,7 @@ impl JoinedMachine for TableNumbering {
     ghost rules = { λ x. table_rules _ _ _ (held x) };
 }
 
+// Its calls stand here as they do for a `Curve`: one impl for every machine is refused, since the trait is another crate's.
 impl Numbering for TableNumbering {
     ghost use Rattle.machine.specs.Means.{means};
     ghost use Rattle.table.specs.Held.{held_lawful};

@@ -1,5 +1,5 @@
 ghost use Rattle.std.specs.Prelude.{◌≡◌, ◌*◌, ◌^◌, ◌<◌, ◌≤◌, length, IfErr, IfOk, None, Some};
-ghost use Rattle.grid.specs.Answers.{refusal, OrMemory};
+ghost use Rattle.grid.specs.Answers.{refusal};
 ghost use Rattle.table.specs.Checks.{check_refusal};
 ghost use Rattle.table.specs.Installed.{Undone};
 ghost use Rattle.table.specs.Offenders.{point_repeated, offends as breaks, first_offender};
@@ -10,7 +10,7 @@ use crate::place::Place;
 use crate::rule::Rule;
 use diagram::Entry;
 use grid::{AxisCount, Refusal};
-use std::alloc::Global;
+use std::alloc::{AllocError, Global};
 
 // The entry that a list has not.
 const NO_ENTRY: Entry = Entry { point: 0, next: 0 };
@@ -128,10 +128,9 @@ impl<'a> TableView<'a> {
     }
 
     // The digit of each n-point in each state: the table read backwards, so that no row is searched.
-    pub(crate) fn undo(&self, heap: Global) -> Result<Vec<u8>, Refusal>
+    pub(crate) fn undo(&self, heap: Global) -> Result<Vec<u8>, AllocError>
         requires { IsTable self.now.axes.count self.now.states self.now.entries.now }
-        ensures refused { OrMemory None (refusal result) }
-        ensures undone { IfOk result (λ v. Undone self.now.axes.count self.now.states self.now.entries.now v.items) }
+        ensures { IfOk result (λ v. Undone self.now.axes.count self.now.states self.now.entries.now v.items) }
     {
         let mut digits = vec![in heap; 0; self.entries.len()]?;
         for (state, row) in self.entries.chunks(self.axes.points() as usize).enumerate() {

@@ -3,16 +3,16 @@ use diagram::Entry;
 use grid::{Refusal, Told};
 use table::FOUR_STATES;
 
-// What the check meets, and what that tells.
-pub(crate) fn met(axes: u32, states: u32, entries: &[Entry]) -> (Option<u32>, Told) {
+// A refusal by its number and what it tells.
+pub(crate) type Met = (Option<u32>, Told);
+
+// What the check meets.
+pub(crate) fn met(axes: u32, states: u32, entries: &[Entry]) -> Result<(), Met> {
     told(table::check(axes, states, entries))
 }
 
-pub(crate) fn told(answer: Result<(), Refusal>) -> (Option<u32>, Told) {
-    match answer {
-        Ok(()) => (None, Told::Nothing),
-        Err(refusal) => (refusal.number(), refusal.told()),
-    }
+pub(crate) fn told(answer: Result<(), Refusal>) -> Result<(), Met> {
+    answer.map_err(|refusal| (refusal.number(), refusal.told()))
 }
 
 // The four-state table with another entry at a place: n-point and next state; then the number, the state and the digit.
@@ -39,9 +39,9 @@ fn one_entry(rt: HostRuntime) {
         if let Some(entry) = table.get_mut(place) {
             *entry = Entry { point, next };
         }
-        assert_eq!(rt; met(2, 4, &table), (Some(number), Told::Two(state, digit)));
+        assert_eq!(rt; met(2, 4, &table), Err((Some(number), Told::Two(state, digit))));
     }
-    assert_eq!(rt; met(2, 4, &FOUR_STATES), (None, Told::Nothing));
+    assert_eq!(rt; met(2, 4, &FOUR_STATES), Ok(()));
 }
 
 // The n-points of one state in another order, each of them still there once.
@@ -50,11 +50,11 @@ fn points_apart(rt: HostRuntime) {
     let mut table = FOUR_STATES;
     table[1].point = 3;
     table[2].point = 1;
-    assert_eq!(rt; met(2, 4, &table), (Some(6), Told::Two(0, 0)));
+    assert_eq!(rt; met(2, 4, &table), Err((Some(6), Told::Two(0, 0))));
     let mut table = FOUR_STATES;
     table[14].point = 1;
     table[15].point = 0;
-    assert_eq!(rt; met(2, 4, &table), (Some(6), Told::Two(3, 1)));
+    assert_eq!(rt; met(2, 4, &table), Err((Some(6), Told::Two(3, 1))));
 }
 
 // A rule is tried over the whole table before the next one.
@@ -62,16 +62,16 @@ fn points_apart(rt: HostRuntime) {
 fn rules_in_order(rt: HostRuntime) {
     let mut table = FOUR_STATES;
     table[1].next = 2;
-    assert_eq!(rt; met(2, 4, &table), (Some(8), Told::Two(0, 0)));
+    assert_eq!(rt; met(2, 4, &table), Err((Some(8), Told::Two(0, 0))));
     table[15].next = 0;
-    assert_eq!(rt; met(2, 4, &table), (Some(7), Told::Two(3, 3)));
+    assert_eq!(rt; met(2, 4, &table), Err((Some(7), Told::Two(3, 3))));
     table[9].point = 0;
     table[10].point = 1;
-    assert_eq!(rt; met(2, 4, &table), (Some(6), Told::Two(2, 0)));
+    assert_eq!(rt; met(2, 4, &table), Err((Some(6), Told::Two(2, 0))));
     table[14].next = 4;
-    assert_eq!(rt; met(2, 4, &table), (Some(5), Told::Two(3, 2)));
+    assert_eq!(rt; met(2, 4, &table), Err((Some(5), Told::Two(3, 2))));
     table[15].point = 0;
-    assert_eq!(rt; met(2, 4, &table), (Some(4), Told::Two(3, 3)));
+    assert_eq!(rt; met(2, 4, &table), Err((Some(4), Told::Two(3, 3))));
 }
 
 // One state alone: consecutive blocks do not meet.
@@ -81,5 +81,5 @@ fn one_state(rt: HostRuntime) {
     table[1].point = 1;
     table[2].point = 3;
     table[3].point = 2;
-    assert_eq!(rt; met(2, 1, &table), (Some(8), Told::Two(0, 0)));
+    assert_eq!(rt; met(2, 1, &table), Err((Some(8), Told::Two(0, 0))));
 }

@@ -73,28 +73,28 @@ fn installed(rt: HostRuntime) -> Result<(), Fail> {
     broken[14] = Entry { point: 0, next: 2 };
     assert_eq!(rt;
         told(table.install(heap, 2, 4, &broken, 3)),
-        (Some(8), Told::Two(3, 2))
+        Err((Some(8), Told::Two(3, 2)))
     );
     // The table is looked at before the order.
     assert_eq!(rt;
         told(table.install(heap, 2, 4, &broken, 31)),
-        (Some(8), Told::Two(3, 2))
+        Err((Some(8), Told::Two(3, 2)))
     );
     assert_eq!(rt;
         told(table.install(heap, 2, 4, &FOUR_STATES, 31)),
-        (Some(9), Told::One(31))
+        Err((Some(9), Told::One(31)))
     );
     assert_eq!(rt;
         told(table.install(heap, 2, 4, &FOUR_STATES, 0)),
-        (Some(9), Told::One(0))
+        Err((Some(9), Told::One(0)))
     );
     assert_eq!(rt;
         told(table.install_diagram(heap, 9, 0)),
-        (Some(1), Told::One(9))
+        Err((Some(1), Told::One(9)))
     );
     assert_eq!(rt;
         told(table.install_diagram(heap, 7, 9)),
-        (Some(9), Told::One(9))
+        Err((Some(9), Told::One(9)))
     );
     assert_eq!(rt; table.order(), 3);
     assert_eq!(rt; table.key_of(&[1, 4])?, 17);

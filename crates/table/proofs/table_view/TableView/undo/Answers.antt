@@ -17,8 +17,8 @@ loop-digit-init c =
 pub loop-state-preserved : goal.loop-state-preserved
 loop-state-preserved c = let i = c.loop-digit.invariant in record { left = i.row.left; undone = row_undone i.undone (omega arith) i.row.count }
 
-pub returns-clause-undone : goal.returns-clause-undone
-returns-clause-undone c = let i = c.loop-state.invariant in all_undone i.undone (no_row_left i.left (search rules) c.args.self.now.long c.in-None.ensures.steps)
+pub returns : goal.returns-clause-undone
+returns c = let i = c.loop-state.invariant in all_undone i.undone (no_row_left i.left (search rules) c.args.self.now.long c.in-None.ensures.steps)
 
 -- the place of the n-point that was read in the row
 place_is : (c : After-index) → c.index.result ≡ c.in-Some.state * 2 ^ c.args.self.now.axes.count + point_at_digit c.args.self.now.axes.count c.args.self.now.entries.now c.in-Some.state c.loop-digit.digit
