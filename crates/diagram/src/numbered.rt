@@ -9,7 +9,7 @@ use crate::sequence::Sequence;
 use crate::state::State;
 use grid::AxisCount;
 
-// How many states a diagram has, and where the number of each is noted: at its slot. The room is that of eight axes.
+// How many states a diagram has, and where the number of each is noted: at its slot. The slots are those of eight axes, so no heap is needed.
 #[derive(Drop)]
 pub(crate) struct Numbers {
     axes: AxisCount,
@@ -31,7 +31,7 @@ impl Numbers {
         states[0] = State::first(axes).pair;
         let mut count = 1;
         let mut taken = 0;
-        // By index, since the list grows while it is walked: an iterator would hold it.
+        // By index: the list grows while it is walked, and an iterator would hold it.
         while taken < count {
             let pair = states[taken];
             let state = State { axes, pair };

@@ -46,7 +46,7 @@ fn extend(axes: u32, list: &mut [u8]) -> usize
     2 * half
 }
 
-// The X2 sequence of that many axes, at the front of a list that has room for the one of eight.
+// The X2 sequence of that many axes, at the front of a list with room for that of eight: no heap is needed.
 #[derive(Drop)]
 pub(crate) struct Sequence {
     pub(crate) axes: AxisCount,

@@ -75,9 +75,10 @@ fn write_row(sequence: &Sequence, numbers: &Numbers, state: State, row: &mut [En
 {
     for (place, entry) in row.iter_mut().enumerate() {
         let digit = place as u32;
+        let next = sequence.next(state, digit);
         *entry = Entry {
             point: state.point(digit) as u8,
-            next: numbers.of(sequence.next(state, digit)),
+            next: numbers.of(next),
         };
     }
 }
