@@ -17,7 +17,7 @@ loop-digit-init c =
 pub loop-state-preserved : goal.loop-state-preserved
 loop-state-preserved c = let i = c.loop-digit.invariant in record { left = i.row.left; undone = row_undone i.undone (omega arith) i.row.count }
 
-pub returns : goal.returns-clause-undone
+pub returns : goal.returns
 returns c = let i = c.loop-state.invariant in all_undone i.undone (no_row_left i.left (search rules) c.args.self.now.long c.in-None.ensures.steps)
 
 -- the place of the n-point that was read in the row
