@@ -1,11 +1,11 @@
 -- A table read backwards: an entry at a time, and what it then answers.
-use Rattle.std.proofs.Common.{◌≡◌, ℕ, ◌+◌, ◌*◌, ◌^◌, ◌<◌, ◌≤◌, ◌≢◌, List, length, get_or, set, sym, ap, ◌∙◌, subst, ap₂, ⊎_elim, arith, length-set, get_or-set_other, get_or-set_same}
+use Rattle.std.proofs.Common.{◌≡◌, ℕ, ◌+◌, ◌*◌, ◌^◌, ◌<◌, ◌≤◌, ◌≢◌, List, length, get_or, set, sym, ap, ◌∙◌, ap₂, arith}
 use Rattle.std.proofs.Math.Arith.{digits_lt}
-use Rattle.std.proofs.lemmas.Bool.{cases_eq}
 use Rattle.diagram.specs.declared.entry.Entry.{Entry}
 use Rattle.table.specs.Installed.{Undone}
 use Rattle.table.specs.Rules.{EachOnce}
 use Rattle.table.specs.Tables.{point_at_digit}
+use Rattle.std.proofs.lemmas.Grind.{common_steps}
 use Rattle.std.proofs.lemmas.List.{get_or_read}
 use Rattle.std.proofs.lemmas.Nat.{same_from_place}
 
@@ -40,17 +40,13 @@ module _ {n m : ℕ} {t : List Entry} (once : EachOnce n m t) where
     pub one_more_undone : UndoneBefore n m t s (d + 1) (set digits place d)
     one_more_undone =
         record {
-          long = length-set digits place d ∙ before.long;
+          long = grind (arith, common_steps);
           reads = λ r e hr he h.
-              ⊎_elim
-              (λ same. let is = same_from_place r e s d (2 ^ n) he hd same in
-              ap₂ (λ (q f : ℕ). get_or (set digits place d) (q * 2 ^ n + point q f) 0) is.0 is.1
-              ∙ ap (λ (i : ℕ). get_or (set digits place d) i 0) (sym at)
-              ∙ get_or-set_same digits place d 0 written_inside
-              ∙ sym is.1)
-              (λ other. get_or-set_other digits place (r * 2 ^ n + point r e) d 0 (λ same. apart r e s d hr he hs hd other (same ∙ at))
-              ∙ before.reads r e hr he (omega arith))
-              (cases_eq (r * 2 ^ n + e) (s * 2 ^ n + d));
+              let inside = written_inside in
+              let same = same_from_place r e s d (2 ^ n) he hd in
+              let other = apart r e s d hr he hs hd in
+              let former = before.reads r e hr he in
+              grind (arith, common_steps);
         }
 
   -- the digit that is read at an n-point has that n-point
@@ -63,7 +59,5 @@ module _ {n m : ℕ} {t : List Entry} (once : EachOnce n m t) where
       → (r < 2 ^ n) × (point s r ≡ p)
   undone_reads {s} {p} {r} digits place undone hs hp at read =
       let found = once.some s p hs hp in
-      let there = at ∙ ap (λ (q : ℕ). s * 2 ^ n + q) (sym found.2) in
-      let is : r ≡ found.0 =
-      get_or_read digits _ _ (omega (arith, digits_lt hs hp, undone.0)) read 0 ∙ ap (λ (i : ℕ). get_or digits i 0) there ∙ undone.1 s found.0 (hs, found.1) in
-      (subst (λ (d : ℕ). d < 2 ^ n) (sym is) found.1, ap (point s) is ∙ found.2)
+      let is : r ≡ found.0 = grind (arith, common_steps, get_or_read digits, digits_lt hs hp, undone.0, undone.1 s found.0 (hs, found.1)) in
+      (omega (arith, found.1), cc (found.2))

@@ -1,7 +1,7 @@
 -- The diagram of 2 to 8 axes is a table, since the state pairs keep the rules; and the two have the same cells.
 use Rattle.std.proofs.Common.{◌≡◌, ℕ, zero, suc, ◌+◌, ◌-◌, ◌*◌, ◌/◌, ◌%◌, ◌^◌, ◌<◌, ◌≤◌, T, ◌≢◌, length, get_or, sym, refl, ap, ◌∙◌, subst, ap₂, subst₂, mod-lt, arith, pow_pos}
-use native.Mathlib.Decide.{ℕ_discrete}
-use lib.Pow.{ones_lt}
+use Rattle.std.proofs.Math.Decide.{ℕ_discrete}
+use Rattle.std.proofs.Math.Pow.{ones_lt}
 use Rattle.diagram.specs.declared.entry.Entry.{Entry}
 use Rattle.diagram.specs.declared.pair.Pair.{Pair}
 use Rattle.diagram.specs.Diagrams.{entries}

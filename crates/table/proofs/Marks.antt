@@ -1,7 +1,8 @@
 -- The marks of the n-points that stand in a row before a digit.
-use Rattle.std.proofs.Common.{◌≡◌, ℕ, ◌+◌, ◌<◌, Bool, true, false, cond, ◌||◌, eqb, List, length, get_or, set, replicate, is_some, Some, None, Option, sym, refl, ap, ◌∙◌, ⊎_elim, add-one, arith, length-set, get_or-set_other, get_or-set_same}
+use Rattle.std.proofs.Common.{◌≡◌, ℕ, ◌+◌, ◌<◌, Bool, true, false, cond, ◌||◌, eqb, List, length, get_or, set, replicate, is_some, Some, None, Option, sym, refl, ap, ◌∙◌, add-one, arith}
+use Rattle.std.proofs.lemmas.Bool.Decides.{nat_tests}
+use Rattle.std.proofs.lemmas.Grind.{common_steps}
 use Rattle.std.proofs.lemmas.List.{get_or-replicate}
-use Rattle.std.proofs.lemmas.Bool.{cases_eq, eq-eqb, ne_eqb, or_right}
 use Rattle.arithmetic.specs.Least.{least}
 use Rattle.arithmetic.proofs.Least.{least_none}
 use Rattle.diagram.specs.declared.entry.Entry.{Entry}
@@ -20,10 +21,6 @@ some_more d (Some i) here = refl
 some_more d None true = refl
 some_more d None false = refl
 
-or_none : (x y : Bool) → y ≡ false → (x || y) ≡ x
-or_none true y e = refl
-or_none false y e = e
-
 stands_more : (n : ℕ) (t : List Entry) (s d p : ℕ) → stands_before n t s (d + 1) p ≡ (stands_before n t s d p || eqb (point_at_digit n t s d) p)
 unfolding least
 stands_more n t s d p =
@@ -40,17 +37,7 @@ module _ {n : ℕ} {t : List Entry} {s : ℕ} where
   -- marking the n-point of d
   pub one_more_marked : {seen : List Bool} {d q : ℕ} → Marked n t s seen d → q ≡ point_at_digit n t s d → q < 256 → Marked n t s (set seen q true) (d + 1)
   one_more_marked {seen} {d} {q} before is small =
-      let stands : (p : ℕ) → stands_before n t s (d + 1) p ≡ (stands_before n t s d p || eqb q p) =
-      λ p. stands_more n t s d p ∙ ap (λ (k : ℕ). stands_before n t s d p || eqb k p) (sym is) in
       record {
-        long = length-set seen q true ∙ before.long;
-        marks = λ p h.
-            ⊎_elim
-            (λ e. ap (λ k. get_or (set seen q true) k false) e
-            ∙ get_or-set_same seen q true false (omega arith)
-            ∙ sym (stands p ∙ or_right (stands_before n t s d p) (eqb q p) (eq-eqb q p (sym e))))
-            (λ e. get_or-set_other seen q p true false e
-            ∙ before.marks p h
-            ∙ sym (stands p ∙ or_none (stands_before n t s d p) (eqb q p) (ne_eqb q p (λ f. e (sym f)))))
-            (cases_eq p q);
+        long = grind (arith, common_steps);
+        marks = λ p h. let more = stands_more n t s d p in let marked = before.marks p h in grind (arith, common_steps, nat_tests);
       }

@@ -1,7 +1,8 @@
 -- A list in rows of w, one for each state, taken a row at a time by `chunks(w).enumerate()`.
-use Rattle.std.proofs.Common.{◌≡◌, ℕ, ◌+◌, ◌-◌, ◌*◌, ◌<◌, ◌≤◌, List, Some, None, length, get_or, drop, sym, ap, ◌∙◌, arith, length-drop, get_or-drop, mul-le-mul_right}
+use Rattle.std.proofs.Common.{◌≡◌, ℕ, ◌+◌, ◌-◌, ◌*◌, ◌<◌, ◌≤◌, List, Some, None, length, get_or, drop, ap, ◌∙◌, arith, length-drop, get_or-drop, mul-le-mul_right}
 use Rattle.std.proofs.Math.Nat.{lt_of_mul-lt-mul_right, le_of_mul-le-mul_right}
-use Rattle.std.proofs.lemmas.List.{get_or_append_left, drop_at, drop-drop}
+use Rattle.std.proofs.lemmas.Grind.{common_steps}
+use Rattle.std.proofs.lemmas.List.{drop_at, drop-drop}
 use Rattle.std.specs.Borrow.{Bor}
 use Rattle.std.specs.Iterator.Adapters.{enumerate_source, enumerate_count, enumerate_steps}
 use Rattle.std.specs.Slice.Iter.{chunks_rest, chunks_size, chunks_steps}
@@ -35,24 +36,16 @@ module _ {A : Type 0} {t : List A} {w : ℕ} {rows : Enumerate (Chunks A)} (left
       let within : k < m = lt_of_mul-lt-mul_right w (omega (arith, long_rest, step.0.1.2)) in
       let next : k + 1 ≤ m = omega arith in
       let long : length row.now ≡ w = omega (arith, long_rest, left.size, step.0.1.1, mul-le-mul_right w next) in
-      let parts = sym step.0.1.0 ∙ left.rest in
+      let parts = left.rest in
+      let cut = drop_at row.now (chunks_rest (enumerate_source after)) w long in
+      let more = drop-drop w (k * w) t in
       rw step.1
       (record {
         within = within;
         long = long;
-        reads = λ d none h.
-            sym (get_or_append_left row.now (chunks_rest (enumerate_source after)) none d (omega arith))
-            ∙ ap (λ (l : List A). get_or l d none) parts
-            ∙ get_or-drop (k * w) t d none;
+        reads = λ d none h. let at = get_or-drop (k * w) t d none in grind (arith, common_steps);
         count = step.2;
-        left = record {
-          size = step.0.0 ∙ left.size;
-          rest =
-              sym (drop_at row.now (chunks_rest (enumerate_source after)) w long)
-              ∙ ap (drop w) parts
-              ∙ drop-drop w (k * w) t
-              ∙ ap (λ (i : ℕ). drop i t) (omega (arith, ap (λ (c : ℕ). c * w) step.2));
-        };
+        left = record { size = step.0.0 ∙ left.size; rest = grind (arith, common_steps) };
       })
 
   pub no_row_left : {m : ℕ} {after : Enumerate (Chunks A)} → 0 < w → length t ≡ m * w → enumerate_steps chunks_steps rows None after → m ≤ enumerate_count rows

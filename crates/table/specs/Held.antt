@@ -1,11 +1,6 @@
--- What a numbering by a table holds, which is a table; so the numbering is lawful and unbroken.
---
--- Holds          — it holds this table, at this order
--- held           — what it holds is a table
--- held_lawful, held_unbroken — the laws of the numbering
-use Rattle.std.specs.Prelude.{◌≡◌, ℕ, List, vec_items}
+-- What a numbering by a table holds is a table, and so the numbering is lawful and unbroken.
+use Rattle.std.specs.Prelude.{vec_items}
 use Rattle.grid.proofs.Limited.{limited}
-use Rattle.diagram.specs.declared.entry.Entry.{Entry}
 use Rattle.numbering.specs.Faces.{FaceToFace}
 use Rattle.numbering.specs.Meaning.{Meaning, Lawful}
 use Rattle.machine.specs.Means.{means}
@@ -14,12 +9,6 @@ use Rattle.table.specs.Rules.{IsTable}
 use Rattle.table.specs.Tables.{table_machine}
 use Rattle.table.specs.Accepting.{accepted_table}
 use Rattle.table.specs.Followed.{numbers, first_state}
-
-pub record Holds (x : TableNumbering) (n k m : ℕ) (t : List Entry) : Type 0 where
-  pub axes : x.grid.axes ≡ n
-  pub order : x.grid.order ≡ k
-  pub states : x.states ≡ m
-  pub entries : vec_items x.entries ≡ t
 
 module _ (x : TableNumbering) where
   pub held : IsTable x.grid.axes x.states (vec_items x.entries)

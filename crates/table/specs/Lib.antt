@@ -4,6 +4,7 @@ pub mod Installed
 pub mod Offenders
 pub mod Rules
 pub mod Tables
+pub mod TableNumbering
 pub mod Held
 pub mod Accepting
 pub mod Offences

@@ -31,7 +31,7 @@ pub struct TableNumbering {
 }
 
 impl TableNumbering {
-    ghost use Rattle.table.specs.Held.{Holds};
+    ghost use Rattle.table.specs.TableNumbering.{Holds};
 
     // At first by the built-in table, at order 1.
     pub fn new(heap: Global) -> Result<TableNumbering, Refusal>

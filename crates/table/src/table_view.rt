@@ -12,7 +12,7 @@ use diagram::Entry;
 use grid::{AxisCount, Refusal};
 use std::alloc::{AllocError, Global};
 
-// The entry that a list has not.
+// What is read where the list has no entry.
 const NO_ENTRY: Entry = Entry { point: 0, next: 0 };
 
 // A list in the form of a table: as many entries as the states have digits. Whether it keeps the rules is not said.
@@ -27,6 +27,7 @@ pub(crate) struct TableView<'a> {
 }
 
 impl<'a> TableView<'a> {
+    // The form is tried in this order: the axes, the states, the length.
     pub(crate) fn new(axes: u32, states: u32, entries: &'a [Entry]) -> Result<Self, Refusal>
         ensures refused { IfErr result (λ e. check_refusal axes states entries.now ≡ Some e) }
         ensures axes { IfOk result (λ t. t.axes.count ≡ axes) }
@@ -116,7 +117,7 @@ impl<'a> TableView<'a> {
         }
     }
 
-    // The entry of a digit in a state; one that the list has not is all zeros.
+    // The entry of a digit in a state. A next state may be none of the table's: its entries are all zeros.
     fn entry(&self, state: u32, digit: u32) -> Entry
         ensures { result ≡ entry_at self.now.axes.count self.now.entries.now state digit }
     {

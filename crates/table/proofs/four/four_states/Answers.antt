@@ -1,6 +1,6 @@
 -- By computation.
 use Rattle.std.proofs.Common.{refl}
-use lib.Count.{ones, ones_in}
+use Rattle.std.specs.Int.Count.{ones, ones_in}
 use Rattle.arithmetic.specs.Least.{least}
 use Rattle.table.proofs.four.four_states.Goals as goal
 
