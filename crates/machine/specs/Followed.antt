@@ -1,4 +1,4 @@
--- What a machine means that a bound gives: at its own order, from its own first state.
+-- What a machine means under a bound `M: Machine`, as `meaning_of M.Machine m.now`: at its own order, from its own first state.
 use Rattle.numbering.specs.Meaning.{Meaning}
 use Rattle.machine.specs.declared.machine.Machine.{Ghosts}
 use Rattle.machine.specs.Means.{means}

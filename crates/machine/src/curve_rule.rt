@@ -8,8 +8,10 @@ use grid::AxisCount;
 pub trait CurveRule {
     type State: Copy;
 
+    // The machine for a number of axes.
     ghost model: { ℕ → Model 2 Self.State };
 
+    // The state to begin with.
     ghost begin: { Self.State };
 
     fn first() -> Self::State
@@ -36,8 +38,10 @@ pub trait CurveRule {
         requires small { digit < 2 ^ (model axes.count).n }
         ensures { result ≡ (model axes.count).next state digit };
 
+    // The machine for n axes has n.
     ghost same_axes: { (n : ℕ) → (model n).n ≡ n };
 
+    // In each state every n-point stands exactly once.
     ghost exact: { (n : ℕ) → 2 ≤ n → n ≤ 8 → Exact (model n) };
 
     ghost begins: { (n : ℕ) → 2 ≤ n → n ≤ 8 → T ((model n).is_state begin) };
