@@ -63,6 +63,8 @@ impl Sequence {
         Sequence { axes, list }
     }
 
+    // The next four require a row below 2^n: of a row alone no type can say for how many axes it is one.
+
     // Where a row starts.
     fn start(&self, row: u32) -> u8
         requires { row < 2 ^ self.now.axes.count }

@@ -7,7 +7,8 @@ ghost use Rattle.grid.specs.Corners.{Ordered, crossed, padded};
 use crate::refusal::Refusal;
 
 // The cells between two corners, ends included. The places past the axes hold 0.
-// Eight places for each corner, whatever the axes: a box is a plain value and needs no heap.
+// Eight places for each corner, whatever the axes: a box is a plain value and needs no heap. Two corners and not eight
+// pairs, since corners are what calls take, answer and promise.
 // It has no `==`: of a derived one on arrays the check can tell nothing.
 #[derive(Clone, Copy, Debug)]
 pub struct GridBox {

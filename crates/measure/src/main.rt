@@ -48,7 +48,7 @@ fn per_round(time: Duration, rounds: u64) -> u128 {
     time.as_nanos() / u128::from(rounds.max(1))
 }
 
-// A key for each round, spread over all of them.
+// A key for each round, spread over all of them. The tests of `tables` have it too: a crate for one line is more to read.
 fn spread(round: u64, size: u64) -> u64 {
     round.wrapping_mul(0x9e37_79b9_7f4a_7c15) % size.max(1)
 }

@@ -1,6 +1,7 @@
 // Hilbert's curve: the twelve printed states in three axes, published cells, and full scans of small grids.
 use diagram::{Reckoned, plane_cell, write_x2};
 use grid::Grid;
+use machine::Curve;
 use numbering::{Numbering, Unbroken, neighbour};
 use std::process::Abort;
 use std::test::Fail;
@@ -90,10 +91,15 @@ pub(crate) const STATES: [PrintedState; 12] = [
     },
 ];
 
-fn reckoned(axes: u32, order: u32) -> Result<Reckoned, Fail> {
-    let mut numbering = Reckoned::new();
+// The numbering by a rule, at that grid.
+pub(crate) fn curve<R>(axes: u32, order: u32) -> Result<Curve<R>, Fail> {
+    let mut numbering = Curve::new();
     numbering.set(axes, order)?;
     Ok(numbering)
+}
+
+fn reckoned(axes: u32, order: u32) -> Result<Reckoned, Fail> {
+    curve(axes, order)
 }
 
 // The cell of a key, zeros behind it: the slice of an array, as wherever no heap is at hand.

@@ -1,4 +1,5 @@
 // Key to cell and cell to key undo each other: every key of small grids, by each numbering and a pile of turnings.
+use crate::hilbert::curve;
 use machine::ZOrder;
 use numbering::{Exchange, Mirror, Numbering, Reversal};
 use std::process::Abort;
@@ -24,9 +25,7 @@ fn scan<N: Numbering>(rt: &impl Abort, numbering: &N) -> Result<(), Fail> {
 }
 
 fn z_order(axes: u32, order: u32) -> Result<ZOrder, Fail> {
-    let mut numbering = ZOrder::new();
-    numbering.set(axes, order)?;
-    Ok(numbering)
+    curve(axes, order)
 }
 
 #[test]

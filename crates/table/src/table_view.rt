@@ -94,6 +94,7 @@ impl<'a> TableView<'a> {
         let Place { state, digit } = place;
         let here = self.entry(state, digit);
         let last = self.axes.points() - 1;
+        // By the rule, as the definition goes: a closure for each would say the same five tests, further from it.
         match rule {
             Rule::Points => u32::from(here.point) > last || repeated,
             Rule::NextStates => u32::from(here.next) >= self.states,
