@@ -68,7 +68,7 @@ fn keys<N: Numbering>(numbering: &N, rounds: u64) -> Result<u64, Refusal> {
     })
 }
 
-// What a closure makes of a key for each round, all bits together. It is lent a list for a cell.
+// What a closure makes of a key for each round, all bits together. It is lent a list for a cell, one array for all rounds.
 fn over_keys<N, F>(numbering: &N, rounds: u64, mut made: F) -> Result<u64, Refusal>
 where
     N: Numbering,

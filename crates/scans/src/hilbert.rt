@@ -110,9 +110,10 @@ fn cell<N: Numbering>(numbering: &N, key: u64) -> Result<[u32; 8], Fail> {
 }
 
 // The n-point of the bits at a place, 0 or 1.
-fn point_at([x, y, z]: [u32; 3], place: u32) -> u32
+fn point_at(cell: [u32; 3], place: u32) -> u32
     requires { place < 2 }
 {
+    let [x, y, z] = cell;
     ((x >> place) & 1) * 4 + ((y >> place) & 1) * 2 + ((z >> place) & 1)
 }
 
