@@ -1,4 +1,6 @@
 // Hilbert's curve: the twelve printed states in three axes, published cells, and full scans of small grids.
+ghost use Rattle.std.specs.Prelude.{◌<◌};
+
 use diagram::{Reckoned, plane_cell, write_x2};
 use grid::Grid;
 use machine::Curve;

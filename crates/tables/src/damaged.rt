@@ -39,7 +39,10 @@ fn one_entry(rt: HostRuntime) {
         if let Some(entry) = table.get_mut(place) {
             *entry = Entry { point, next };
         }
-        assert_eq!(rt; met(2, 4, &table), Err((Some(number), Told::Two(state, digit))));
+        assert_eq!(rt;
+            met(2, 4, &table),
+            Err((Some(number), Told::Two(state, digit)))
+        );
     }
     assert_eq!(rt; met(2, 4, &FOUR_STATES), Ok(()));
 }

@@ -21,7 +21,10 @@ fn axes_and_states(rt: HostRuntime) {
 #[test]
 fn lengths(rt: HostRuntime) -> Result<(), Fail> {
     assert_eq!(rt; met(2, 4, &[]), Err((Some(3), Told::One(0))));
-    assert_eq!(rt; met(2, 4, &FOUR_STATES[0..15]), Err((Some(3), Told::One(15))));
+    assert_eq!(rt;
+        met(2, 4, &FOUR_STATES[0..15]),
+        Err((Some(3), Told::One(15)))
+    );
     assert_eq!(rt; met(2, 3, &FOUR_STATES), Err((Some(3), Told::One(16))));
     assert_eq!(rt; met(2, 4096, &FOUR_STATES), Err((Some(3), Told::One(16))));
     let mut long = FOUR_STATES.to_vec(rt.alloc())?;
@@ -49,6 +52,9 @@ fn most_states(rt: HostRuntime) -> Result<(), Fail> {
         Err((Some(5), Told::Two(4095, 3)))
     );
     table.extend_from_slice(&FOUR_STATES[0..4])?;
-    assert_eq!(rt; met(2, 4097, table.as_slice()), Err((Some(2), Told::One(4097))));
+    assert_eq!(rt;
+        met(2, 4097, table.as_slice()),
+        Err((Some(2), Told::One(4097)))
+    );
     Ok(())
 }
