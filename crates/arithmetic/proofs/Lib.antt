@@ -1,6 +1,5 @@
 pub mod Complements
 pub mod Fronts
 pub mod Least
-pub mod Lists
 pub mod Pigeons
 pub mod Powers

@@ -18,11 +18,14 @@ mod room;
 mod numbered;
 // The diagram, written to lists.
 mod writing;
+// The diagram, as a table of its own.
+mod diagram_table;
 // The reckoned numbering.
 mod reckoned;
 // Two axes: the published algorithm.
 mod plane;
 
+pub use diagram_table::DiagramTable;
 pub use entry::Entry;
 pub use pair::Pair;
 pub use plane::plane_cell;

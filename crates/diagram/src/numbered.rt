@@ -9,24 +9,24 @@ use crate::sequence::Sequence;
 use crate::state::State;
 use grid::AxisCount;
 
-// How many states a diagram has, and where the number of each is noted: at its slot. The slots are those of eight axes, so no heap is needed.
+// The rows of a diagram, how many states it has, and where the number of each is noted: at its slot. The slots are those of eight axes, so no heap is needed.
 #[derive(Drop)]
 pub(crate) struct Numbers {
-    axes: AxisCount,
+    pub(crate) sequence: Sequence,
     count: usize,
     notes: [u16; 2048],
-    ghost counted: { count ≡ length (numbered_states axes.count) },
-    ghost noted: { Noted axes.count (numbered_states axes.count) notes },
+    ghost counted: { count ≡ length (numbered_states sequence.axes.count) },
+    ghost noted: { Noted sequence.axes.count (numbered_states sequence.axes.count) notes },
 }
 
 impl Numbers {
     // Numbers the states as they are first met, at the front of the list.
-    pub(crate) fn new(sequence: &Sequence, states: &mut [Pair]) -> Numbers
-        requires { most_states sequence.now.axes.count ≤ length states.old }
-        ensures axes { result.axes ≡ sequence.now.axes }
-        ensures listed { let l = numbered_states sequence.now.axes.count in states.new ≡ l ++ drop (length l) states.old }
+    pub(crate) fn new(axes: AxisCount, states: &mut [Pair]) -> Numbers
+        requires { most_states axes.count ≤ length states.old }
+        ensures axes { result.sequence.axes ≡ axes }
+        ensures listed { let l = numbered_states axes.count in states.new ≡ l ++ drop (length l) states.old }
     {
-        let axes = sequence.axes;
+        let sequence = Sequence::new(axes);
         let mut notes = [0; 2048];
         states[0] = State::first(axes).pair;
         let mut count = 1;
@@ -46,11 +46,15 @@ impl Numbers {
             }
             taken += 1;
         }
-        Numbers { axes, count, notes }
+        Numbers {
+            sequence,
+            count,
+            notes,
+        }
     }
 
     pub(crate) fn count(&self) -> usize
-        ensures is { result ≡ length (numbered_states self.now.axes.count) }
+        ensures is { result ≡ length (numbered_states self.now.sequence.axes.count) }
         ensures few { result ≤ 1024 }
     {
         self.count
@@ -58,7 +62,7 @@ impl Numbers {
 
     // The number of a state.
     pub(crate) fn of(&self, state: State) -> u16
-        requires axes { self.now.axes ≡ state.axes }
+        requires axes { self.now.sequence.axes ≡ state.axes }
         requires known { Contains (numbered_states state.axes.count) state.pair }
         ensures { result ≡ number_of (numbered_states state.axes.count) state.pair }
     {

@@ -48,6 +48,8 @@ fn join(x: u64, bits: u32, more: u64) -> u64
     (x << bits) + more
 }
 
+// A row is required to be below 2^n, as a digit of a `State` is.
+
 // Rows 2i - 1 and 2i start at X1 of 2i - 2.
 pub(crate) fn start_of(axes: AxisCount, row: u64) -> u64
     requires { row < 2 ^ axes.count }

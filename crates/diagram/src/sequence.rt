@@ -8,6 +8,7 @@ use crate::state::State;
 use grid::{AxisCount, Refusal};
 
 // Writes the X2 sequence for that many axes, the starts and ends of the rows by turns, at the front of a list, and answers its length.
+// The list is lent, so that no heap is needed.
 pub fn write_x2(axes: u32, list: &mut [u8]) -> Result<usize, Refusal>
     ensures refused { refusal result ≡ x2_refusal axes (length list.old) }
     ensures long { IfOk result (λ long. long ≡ 2 ^ suc axes) }
@@ -63,7 +64,7 @@ impl Sequence {
         Sequence { axes, list }
     }
 
-    // The next four require a row below 2^n: of a row alone no type can say for how many axes it is one.
+    // The next four require a row below 2^n: a row with its axes, as a type, would be made and taken apart at each call.
 
     // Where a row starts.
     fn start(&self, row: u32) -> u8

@@ -15,6 +15,7 @@ pub(crate) struct State {
     ghost shift: { pair.shift < axes.count },
 }
 
+// A digit or an n-point is required to be below 2^n: as a type with axes of its own it would be made and taken apart at each call.
 impl State {
     // The state to begin with.
     pub(crate) fn first(axes: AxisCount) -> State

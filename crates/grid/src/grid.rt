@@ -1,12 +1,13 @@
 ghost use Rattle.std.specs.Prelude.{◌≡◌, ◌*◌, ◌<◌, ◌≤◌, length, IfOk};
 ghost use Rattle.grid.specs.Answers.{refusal};
 ghost use Rattle.grid.specs.Axes.{lowest};
-ghost use Rattle.grid.specs.Grids.{grid_side, grid_size, grid_refusal, cell_check, outside};
+ghost use Rattle.grid.specs.Grids.{grid_side, grid_size, grid_refusal, key_check, step_check, length_check, cell_check, outside};
 
 use crate::axis_count::AxisCount;
 use crate::refusal::Refusal;
 
 // A grid of 2 to 8 axes and an order of at least 1, whose keys have at most 60 bits.
+// Its axes are a plain number, which clauses name; `axis_count` gives them as one of 2 to 8.
 #[derive(Clone, Copy, PartialEq, Eq, Debug)]
 pub struct Grid {
     pub(crate) axes: u32,
@@ -62,13 +63,42 @@ impl Grid {
         1 << (self.axes * self.order)
     }
 
+    // Whether a key is below the number of cells.
+    pub fn check_key(self, key: u64) -> Result<(), Refusal>
+        ensures { refusal result ≡ key_check self.axes self.order key }
+    {
+        if key >= self.size() {
+            return Err(Refusal::Key { key });
+        }
+        Ok(())
+    }
+
+    // Whether a key has a next one.
+    pub fn check_step(self, key: u64) -> Result<(), Refusal>
+        ensures { refusal result ≡ step_check self.axes self.order key }
+    {
+        self.check_key(key)?;
+        if key + 1 == self.size() {
+            return Err(Refusal::LastKey { key });
+        }
+        Ok(())
+    }
+
+    // Whether a list has one place for each axis.
+    pub fn check_length(self, list: &[u32]) -> Result<(), Refusal>
+        ensures { refusal result ≡ length_check self.axes list.now }
+    {
+        if list.len() != self.axes as usize {
+            return Err(Refusal::CellLength { length: list.len() });
+        }
+        Ok(())
+    }
+
     // Whether a list is a cell of this grid.
     pub fn check(self, cell: &[u32]) -> Result<(), Refusal>
         ensures { refusal result ≡ cell_check self.axes self.order cell.now }
     {
-        if cell.len() != self.axes as usize {
-            return Err(Refusal::CellLength { length: cell.len() });
-        }
+        self.check_length(cell)?;
         if let Some(axis) = lowest_outside(cell, self.side()) {
             return Err(Refusal::Coordinate { axis });
         }
@@ -76,7 +106,8 @@ impl Grid {
     }
 }
 
-// The lowest axis on which a cell is outside.
+// The lowest axis on which a cell is outside. Of a list that is lent its length has to be told: a type for at most eight
+// places would be made for this call alone.
 fn lowest_outside(cell: &[u32], side: u32) -> Option<u32>
     requires { length cell.now ≤ 8 }
     ensures { result ≡ lowest (outside side) cell.now }

@@ -84,7 +84,8 @@ impl GridBox {
     }
 }
 
-// The lowest axis on which the low corner is above the high one.
+// The lowest axis on which the low corner is above the high one. That a corner has at most eight places is told to this and
+// to the next: a type for it would be made for the two alone.
 fn crossing(low: &[u32], high: &[u32]) -> Option<u32>
     requires { length low.now ≤ 8 }
     ensures { result ≡ lowest crossed (zip low.now high.now) }

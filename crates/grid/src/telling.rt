@@ -6,7 +6,8 @@ use crate::refusal::Refusal;
 use std::error::Error;
 use std::fmt;
 
-// What a refusal tells: nothing, one number or two. An enum of its own, since of two Options the second could stand alone.
+// What a refusal tells: nothing, one number or two. An enum of its own: callers match
+// on three cases with names, which Options in one another would not have.
 #[derive(Clone, Copy, PartialEq, Eq, Debug)]
 pub enum Told {
     Nothing,

@@ -8,8 +8,8 @@ pub(crate) fn digit_of(key: u64, axes: AxisCount, left: u32) -> u32
     requires { axes.count * left ≤ 60 }
     ensures { result ≡ key / 2 ^ (axes.count * left) % 2 ^ axes.count }
 {
-    let lowest = u64::from(axes.points() - 1);
-    ((key >> (axes.get() * left)) & lowest) as u32
+    let mask = u64::from(axes.points() - 1);
+    ((key >> (axes.get() * left)) & mask) as u32
 }
 
 // A key with one more digit.
@@ -27,6 +27,8 @@ fn bit(x: u32, place: u32) -> u32
 {
     (x >> place) & 1
 }
+
+// A cell is lent to the next two as a list: a type for at most eight places would be made and taken apart at each digit.
 
 // One more bit for each coordinate, that of the n-point.
 pub(crate) fn append(cell: &mut [u32], point: u32)

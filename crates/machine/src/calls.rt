@@ -9,13 +9,8 @@ use grid::Refusal;
 pub fn cell_by<M: Machine>(m: &M, key: u64, cell: &mut [u32]) -> Result<(), Refusal>
     ensures { CellAnswer (meaning_of M.Machine m.now) key cell.old result cell.new }
 {
-    let grid = m.grid();
-    if key >= grid.size() {
-        return Err(Refusal::Key { key });
-    }
-    if cell.len() != grid.axes() as usize {
-        return Err(Refusal::CellLength { length: cell.len() });
-    }
+    m.grid().check_key(key)?;
+    m.grid().check_length(cell)?;
     to_cell(m, key, cell);
     Ok(())
 }

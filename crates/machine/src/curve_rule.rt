@@ -17,7 +17,8 @@ pub trait CurveRule {
     fn first() -> Self::State
         ensures { result ≡ begin };
 
-    // The next three require a state and a digit of the machine for these axes, as those of a machine do.
+    // The next three require a state and a digit of the machine for these axes: which there are depends on the axes, so no
+    // type can say it.
 
     // The n-point of a digit.
     fn point(axes: AxisCount, state: Self::State, digit: u32) -> u32

@@ -14,19 +14,14 @@ pub fn step_by<M: JoinedMachine>(m: &M, key: u64) -> Result<Step, Refusal>
     ensures { StepAnswer (meaning_of M.Machine m.now) key result }
 {
     let grid = m.grid();
-    if key >= grid.size() {
-        return Err(Refusal::Key { key });
-    }
-    if key + 1 == grid.size() {
-        return Err(Refusal::LastKey { key });
-    }
+    grid.check_step(key)?;
     let axes = grid.axes() as usize;
     let here = places_of(m, key);
     let there = places_of(m, key + 1);
     Ok(step_between(&here[..axes], &there[..axes]))
 }
 
-// The cell of a key as the first of eight places, so that nothing is allocated.
+// The cell of a key at the front of eight places, since no call of a numbering asks for memory.
 fn places_of<M: Machine>(m: &M, key: u64) -> [u32; 8]
     requires { key < size (meaning_of M.Machine m.now) }
     ensures { let m' = meaning_of M.Machine m.now in take m'.axes result ≡ m'.cell key }
@@ -36,7 +31,8 @@ fn places_of<M: Machine>(m: &M, key: u64) -> [u32; 8]
     places
 }
 
-// The step between two cells that share a face.
+// The step between two cells that share a face. A cell is lent as a list: a type for at most eight places would be made here
+// and taken apart at once.
 fn step_between(here: &[u32], there: &[u32]) -> Step
     requires few { length here.now ≤ 8 }
     requires same { length there.now ≡ length here.now }

@@ -38,7 +38,7 @@ fn time<N: Numbering>(rt: &(impl Print + Clock), numbering: &N, rounds: u64) -> 
     let keys = keys(numbering, rounds)?;
     let key_time = per_round(start.elapsed(rt)?, rounds).saturating_sub(cell_time);
     // What was reckoned is told where it can be wrong, so that nothing is left out.
-    if cells == u64::MAX && keys != 0 {
+    if cells == u64::from(u32::MAX) && keys != 0 {
         print!(rt; "?")?;
     }
     Ok(print!(rt; "  {cell_time:>12} {key_time:>5}")?)

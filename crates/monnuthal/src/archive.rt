@@ -3,25 +3,29 @@ use grid::{GridBox, Refusal};
 use numbering::Numbering;
 use std::alloc::Global;
 
-// A row of the ordered table: a key, and the number of the record that is filed under it.
-#[derive(Clone, Copy, PartialEq, Eq, PartialOrd, Ord)]
-pub(crate) struct Row {
+// A row of the ordered table: a key, and the record that is filed under it, with its number.
+#[derive(Clone, Copy)]
+pub(crate) struct Row<'a> {
     pub(crate) key: u64,
     pub(crate) number: usize,
+    pub(crate) sounding: &'a Sounding,
 }
 
 // Files each record under the key of its cell, in ascending key order.
-pub(crate) fn file<N: Numbering>(
+pub(crate) fn file<'a, N: Numbering>(
     heap: Global,
     numbering: &N,
-    soundings: &[Sounding],
-) -> Result<Vec<Row>, Refusal> {
+    soundings: &'a [Sounding],
+) -> Result<Vec<Row<'a>>, Refusal> {
     let mut table = Vec::new(heap);
     for (number, sounding) in soundings.iter().enumerate() {
-        let key = numbering.key_of(&sounding.cell)?;
-        table.push(Row { key, number })?;
+        table.push(Row {
+            key: numbering.key_of(&sounding.cell)?,
+            number,
+            sounding,
+        })?;
     }
-    table.sort_unstable();
+    table.sort_unstable_by_key(|row| (row.key, row.number));
     Ok(table)
 }
 
@@ -33,20 +37,15 @@ pub(crate) fn wanted() -> Result<GridBox, Refusal> {
 }
 
 // The rows whose cell lies in a box, by a look at every row.
-pub(crate) fn scan(
+pub(crate) fn scan<'a>(
     heap: Global,
-    table: &[Row],
-    soundings: &[Sounding],
+    table: &[Row<'a>],
     wanted: GridBox,
-) -> Result<Vec<Row>, Refusal> {
+) -> Result<Vec<Row<'a>>, Refusal> {
     let found = table
         .iter()
         .copied()
-        .filter(|row| {
-            soundings
-                .get(row.number)
-                .is_some_and(|sounding| wanted.contains(&sounding.cell))
-        })
+        .filter(|row| wanted.contains(&row.sounding.cell))
         .collect(heap)?;
     Ok(found)
 }

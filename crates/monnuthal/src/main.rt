@@ -35,10 +35,10 @@ fn file_and_search(rt: &(impl Print + AllocGlobal)) -> anyhow::Result<()> {
     numbering.set(survey::AXES, survey::ORDER)?;
     report::records(rt, &numbering, &z_order, &survey::SOUNDINGS)?;
     let table = archive::file(rt.alloc(), &numbering, &survey::SOUNDINGS)?;
-    report::table(rt, table.as_slice(), &survey::SOUNDINGS)?;
+    report::table(rt, table.as_slice())?;
     let wanted = archive::wanted()?;
-    let found = archive::scan(rt.alloc(), table.as_slice(), &survey::SOUNDINGS, wanted)?;
-    report::rows(rt, wanted, found.as_slice(), &survey::SOUNDINGS)?;
+    let found = archive::scan(rt.alloc(), table.as_slice(), wanted)?;
+    report::rows(rt, wanted, found.as_slice())?;
     report::neighbours(rt, &numbering, found.as_slice())?;
     report::faces(rt)
 }

@@ -43,19 +43,14 @@ pub(crate) fn records<N: Numbering, M: Numbering>(
 }
 
 // The table in key order.
-pub(crate) fn table(rt: &impl Print, table: &[Row], soundings: &[Sounding]) -> io::Result<()> {
+pub(crate) fn table(rt: &impl Print, table: &[Row]) -> io::Result<()> {
     println!(rt; "")?;
     println!(rt; "The table, in the order of the Hilbert keys")?;
-    list(rt, table, soundings)
+    list(rt, table)
 }
 
 // A box, and the rows in it.
-pub(crate) fn rows(
-    rt: &impl Print,
-    wanted: GridBox,
-    found: &[Row],
-    soundings: &[Sounding],
-) -> io::Result<()> {
+pub(crate) fn rows(rt: &impl Print, wanted: GridBox, found: &[Row]) -> io::Result<()> {
     let [west, south, top, ..] = wanted.low();
     let [east, north, bottom, ..] = wanted.high();
     let count = found.len();
@@ -63,18 +58,19 @@ pub(crate) fn rows(
     println!(rt;
         "The box from ({west}, {south}, {top}) to ({east}, {north}, {bottom}), by a look at every row: {count} rows"
     )?;
-    list(rt, found, soundings)
+    list(rt, found)
 }
 
-fn list(rt: &impl Print, rows: &[Row], soundings: &[Sounding]) -> io::Result<()> {
+fn list(rt: &impl Print, rows: &[Row]) -> io::Result<()> {
     println!(rt; "    key  no  station")?;
     for row in rows {
-        let key = row.key;
-        let number = row.number;
-        if let Some(sounding) = soundings.get(number) {
-            let station = sounding.station;
-            println!(rt; "  {key:>5}  {number:>2}  {station}")?;
-        }
+        let Row {
+            key,
+            number,
+            sounding,
+        } = *row;
+        let station = sounding.station;
+        println!(rt; "  {key:>5}  {number:>2}  {station}")?;
     }
     Ok(())
 }

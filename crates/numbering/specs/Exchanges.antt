@@ -5,7 +5,7 @@ use Rattle.std.proofs.lemmas.Bool.{cases_eq, cases_Bool, cond-true, cond-false, 
 use Rattle.std.proofs.lemmas.Bool.Decides.{nat_tests}
 use Rattle.grid.specs.declared.step.Step.{Step}
 use Rattle.grid.specs.Grids.{grid_side, InGrid}
-use Rattle.arithmetic.proofs.Lists.{same_members}
+use Rattle.std.proofs.lemmas.Grind.{same_number_lists}
 use Rattle.numbering.specs.Faces.{Moves}
 use Rattle.numbering.specs.Meaning.{Meaning, CellsTogether, side}
 use Rattle.numbering.specs.Turnings.{partner, exchange_cell}
@@ -77,9 +77,10 @@ module _ (m : Meaning) (i j : ℕ) where
 
   twice : (v : List ℕ) → InGrid m.axes m.order v → exchange_cell i j (exchange_cell i j v) ≡ v
   twice v g =
-      same_members (exchange_cell i j (exchange_cell i j v)) v (exchange_long i j (exchange_cell i j v) ∙ exchange_long i j v)
+      let long = exchange_long i j (exchange_cell i j v) ∙ exchange_long i j v in
+      same_number_lists (exchange_cell i j (exchange_cell i j v)) v long
       (λ a h.
-      let l : a < m.axes = subst (λ (x : ℕ). a < x) g.long h in
+      let l : a < m.axes = subst (λ (x : ℕ). a < x) (long ∙ g.long) h in
       exchange_at m.axes i j (exchange_cell i j v) a (keeps v g).long l
       ∙ exchange_at m.axes i j v (partner m.axes i j a) g.long (partner_lt m.axes i j a l)
       ∙ ap (λ x. slice_index v x) (partner_twice m.axes i j a l))

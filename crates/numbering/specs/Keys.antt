@@ -1,6 +1,6 @@
 -- The key of a cell: when it is refused, and what the laws give of it.
-use Rattle.std.specs.Prelude.{◌≡◌, ℕ, ◌+◌, ◌<◌, cond, List, length, Some, None, Ok, Err, Result, ◌==◌, nat_lt, refl}
-use Rattle.std.proofs.Common.{sym, ap, ◌∙◌, subst, arith}
+use Rattle.std.specs.Prelude.{◌≡◌, ℕ, ◌+◌, ◌-◌, ◌<◌, ◌≤◌, cond, List, length, take, Some, None, Ok, Err, Result, ◌==◌, nat_lt, refl}
+use Rattle.std.proofs.Common.{sym, ap, ◌∙◌, subst, arith, length-take}
 use Rattle.std.proofs.lemmas.Bool.{cond-true, eq-eqb, lt-ltb}
 use Rattle.std.proofs.lemmas.Bool.Decides.{nat_tests}
 use Rattle.grid.specs.declared.refusal.Refusal.{Refusal}
@@ -39,7 +39,15 @@ pub cell_met : (m : Meaning) (key : ℕ) (list : List ℕ) → length list ≡ m
 cell_met m key list e =
     ap (λ o. cond (nat_lt key (size m)) o (Some (Key key))) (cond-true (length list == m.axes) None _ (eq-eqb (length list) m.axes e))
 
+-- the front of eight places, one for each axis
+pub front_long : (n : ℕ) (places : List ℕ) → n ≤ length places → length (take (n - 0) places) ≡ n
+front_long n places h = let e = length-take (n - 0) places in omega arith
+
 -- from a key to its cell and back
+pub round_refused : (m : Meaning) (key : ℕ) (list : List ℕ) (e : Refusal) → length list ≡ m.axes → Some e ≡ cell_refusal m key list
+    → Err e ≡ answer (key_in_grid m key) key
+round_refused m key list e long q = ap (λ o. answer o key) (q ∙ cell_met m key list long)
+
 pub round_returned : (m : Meaning) → OneKey m → (key : ℕ) (list after : List ℕ) (r : Result ℕ Refusal) (u : Unit {0})
     → CellAnswer m key list (Ok u) after → KeyAnswer m after r → r ≡ answer (key_in_grid m key) key
 round_returned m law key list after r u a k =

@@ -8,7 +8,7 @@ use Rattle.grid.specs.declared.step.Step.{Step}
 use Rattle.grid.specs.Grids.{grid_side, InGrid}
 use Rattle.grid.specs.Steps.{opposite}
 use Rattle.arithmetic.proofs.Complements.{complements}
-use Rattle.arithmetic.proofs.Lists.{same_members}
+use Rattle.std.proofs.lemmas.Grind.{same_number_lists}
 use Rattle.numbering.specs.Faces.{Moves}
 use Rattle.numbering.specs.Meaning.{Meaning, CellsTogether, side}
 use Rattle.numbering.specs.Turnings.{mirror_cell}
@@ -56,8 +56,9 @@ module _ (m : Meaning) (i : ℕ) where
   twice : (v : List ℕ) → InGrid m.axes m.order v → mirror_cell (side m) i (mirror_cell (side m) i v) ≡ v
   twice v g =
       let u = mirror_cell (side m) i v in
-      same_members (mirror_cell (side m) i u) v (long u ∙ long v)
-      (λ a h.
+      same_number_lists (mirror_cell (side m) i u) v (long u ∙ long v)
+      (λ a l.
+      let h : a < length v = subst (λ (x : ℕ). a < x) (long u ∙ long v) l in
       ⊎_elim
       (λ e. here (side m) i u a (subst (λ (x : ℕ). a < x) (sym (long v)) h) e
       ∙ ap (λ x. side m - 1 - x) (here (side m) i v a h e) ∙ again (side m) (slice_index v a) (g.small a (subst (λ (x : ℕ). a < x) g.long h)))

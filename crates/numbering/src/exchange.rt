@@ -13,7 +13,7 @@ use grid::{Grid, Refusal, Step};
 pub type Exchange<N> = Turned<ExchangedAxes, N>;
 
 // The two axes whose coordinates change places.
-#[derive(Clone, Copy)]
+#[derive(Clone, Copy, PartialEq, Eq, Debug)]
 pub struct ExchangedAxes {
     // Counted from 1. No call sets an axis past the last, which would exchange nothing.
     first: u32,

@@ -14,7 +14,7 @@ mod turned;
 mod mirror;
 // The turning that exchanges two axes.
 mod exchange;
-// Whether there is such an axis.
+// Whether a numbering has an axis.
 mod axes;
 // The key of the cell beside a key's.
 mod neighbours;

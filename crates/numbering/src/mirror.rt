@@ -14,7 +14,7 @@ use grid::{Grid, Refusal, Step};
 pub type Mirror<N> = Turned<MirrorAxis, N>;
 
 // The axis whose coordinate a mirror replaces.
-#[derive(Clone, Copy)]
+#[derive(Clone, Copy, PartialEq, Eq, Debug)]
 pub struct MirrorAxis {
     // Counted from 1. No call sets an axis past the last, which would mirror nothing.
     axis: u32,

@@ -10,7 +10,7 @@ pub fn neighbour<N: Numbering>(numbering: &N, key: u64, step: Step) -> Result<u6
     ensures { NeighbourAnswer (N.Numbering.meaning numbering.now) key step result }
 {
     let grid = numbering.grid();
-    // In eight places of its own, since no call of a numbering asks for memory.
+    // The front of eight places: no call of a numbering asks for memory, and a slice has its length.
     let mut places = [0; 8];
     let cell = &mut places[0..grid.axes() as usize];
     numbering.cell_of(key, cell)?;

@@ -54,7 +54,7 @@ pub trait Numbering {
         ensures answer { result ≡ answer (key_in_grid (meaning self.now) key) key }
         ensures undo { Undo (meaning self.now) }
     {
-        // In eight places of its own, since no call of a numbering asks for memory.
+        // The front of eight places: no call of a numbering asks for memory, and a slice has its length.
         let mut places = [0; 8];
         let cell = &mut places[0..self.axes() as usize];
         self.cell_of(key, cell)?;

@@ -42,11 +42,9 @@ impl<N: Numbering> Numbering for Reversal<N> {
     }
 
     fn cell_of(&self, key: u64, cell: &mut [u32]) -> Result<(), Refusal> {
-        let size = self.inner.grid().size();
-        if key >= size {
-            return Err(Refusal::Key { key });
-        }
-        self.inner.cell_of(size - 1 - key, cell)
+        let grid = self.inner.grid();
+        grid.check_key(key)?;
+        self.inner.cell_of(grid.size() - 1 - key, cell)
     }
 
     fn key_of(&self, cell: &[u32]) -> Result<u64, Refusal> {
@@ -59,14 +57,9 @@ impl<N: Unbroken> Unbroken for Reversal<N> {
     ghost joined = { λ x. reversed_joined (N.Numbering.meaning x.inner) (N.Unbroken.joined x.inner) };
 
     fn step(&self, key: u64) -> Result<Step, Refusal> {
-        let size = self.inner.grid().size();
-        if key >= size {
-            return Err(Refusal::Key { key });
-        }
-        if key + 1 == size {
-            return Err(Refusal::LastKey { key });
-        }
-        let step = self.inner.step(size - 2 - key)?;
+        let grid = self.inner.grid();
+        grid.check_step(key)?;
+        let step = self.inner.step(grid.size() - 2 - key)?;
         Ok(Step {
             direction: step.direction.opposite(),
             ..step

@@ -75,7 +75,7 @@ impl<T: CellTurn, N: Numbering> Numbering for Turned<T, N> {
     fn key_of(&self, cell: &[u32]) -> Result<u64, Refusal> {
         let grid = self.grid();
         grid.check(cell)?;
-        // In eight places of its own, since no call of a numbering asks for memory.
+        // The front of eight places: no call of a numbering asks for memory, and a slice has its length.
         let mut places = [0; 8];
         let turned = &mut places[0..cell.len()];
         turned.copy_from_slice(cell);

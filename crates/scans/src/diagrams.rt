@@ -1,11 +1,11 @@
 // Written diagrams: the printed tables of three axes whole, both ways, the four states of two axes, and what is left alone.
 use crate::hilbert::STATES;
-use diagram::{Entry, Pair, diagram_room, write_diagram};
-use grid::Refusal;
+use diagram::{DiagramTable, Entry, Pair, diagram_room, write_diagram};
+use grid::{AxisCount, Refusal};
 use std::alloc::Global;
 use std::test::Fail;
 
-// A state of the other printed table: by n-point its digit, and below it the next state.
+// A state of the other printed table: by n-point its digit, and below it the next state, in two lines as they are printed.
 struct ByPoint {
     digits: [usize; 8],
     next: [u16; 8],
@@ -152,6 +152,17 @@ fn four_pairs(rt: HostRuntime) -> Result<(), Fail> {
     let table = diagram_of(rt.alloc(), 2)?;
     for (state, (start, shift)) in table.states.iter().zip([(0, 0), (0, 1), (3, 1), (3, 0)]) {
         assert_eq!(rt; *state, Pair { start, shift });
+    }
+    Ok(())
+}
+
+// The diagram as a table of its own has memory enough, and no room to spare.
+#[test]
+fn tables_made(rt: HostRuntime) -> Result<(), Fail> {
+    for (axes, count, entries) in SIZES {
+        let table = DiagramTable::new(rt.alloc(), AxisCount::try_from(axes)?)?;
+        assert_eq!(rt; table.states, count);
+        assert_eq!(rt; table.entries.len(), entries);
     }
     Ok(())
 }

@@ -22,14 +22,13 @@ fn refused<T: Drop>(
 #[test]
 fn limits(rt: HostRuntime) -> Result<(), Fail> {
     // The greatest order for each number of axes from 2 on, and one more.
-    for (i, most) in [30, 20, 15, 12, 10, 8, 7].iter().enumerate() {
-        let axes = i as u32 + 2;
-        assert_eq!(rt; Grid::new(axes, *most)?.axes(), axes);
+    for (axes, most) in (2u32..9).zip([30u32, 20, 15, 12, 10, 8, 7]) {
+        assert_eq!(rt; Grid::new(axes, most)?.axes(), axes);
         refused(
             &rt,
-            Grid::new(axes, *most + 1),
+            Grid::new(axes, most + 1),
             9,
-            Told::One(u64::from(*most) + 1),
+            Told::One(u64::from(most) + 1),
         )?;
         refused(&rt, Grid::new(axes, 0), 9, Told::One(0))?;
     }

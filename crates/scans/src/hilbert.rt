@@ -13,7 +13,7 @@ pub(crate) struct PrintedState {
     // How many digits, and the key that they are.
     digits: u32,
     key: u64,
-    // By digit: the n-point and the next state.
+    // By digit: the n-point and the next state, in two lines as they are printed.
     pub(crate) points: [u32; 8],
     pub(crate) next: [usize; 8],
 }
@@ -93,7 +93,7 @@ pub(crate) const STATES: [PrintedState; 12] = [
     },
 ];
 
-// The numbering by a rule, at that grid.
+// A numbering by a rule, at a grid of that many axes and that order.
 pub(crate) fn curve<R>(axes: u32, order: u32) -> Result<Curve<R>, Fail> {
     let mut numbering = Curve::new();
     numbering.set(axes, order)?;
@@ -104,7 +104,7 @@ fn reckoned(axes: u32, order: u32) -> Result<Reckoned, Fail> {
     curve(axes, order)
 }
 
-// The cell of a key, zeros behind it: the slice of an array, as wherever no heap is at hand.
+// The cell of a key, zeros behind it. At the front of an array, which is no longer than a Vec would be.
 fn cell<N: Numbering>(numbering: &N, key: u64) -> Result<[u32; 8], Fail> {
     let mut places = [0u32; 8];
     numbering.cell_of(key, &mut places[0..numbering.axes() as usize])?;

@@ -7,7 +7,7 @@ use std::test::Fail;
 
 const GRIDS: [(u32, u32); 6] = [(2, 1), (2, 2), (2, 3), (3, 1), (3, 2), (3, 3)];
 
-// The cell of a key has that key. In an array of its own: no heap.
+// The cell of a key has that key. At the front of an array, which is no longer than a Vec would be.
 fn returns<N: Numbering>(rt: &impl Abort, numbering: &N, key: u64) -> Result<(), Fail> {
     let mut places = [0u32; 8];
     let cell = &mut places[0..numbering.axes() as usize];

@@ -12,8 +12,6 @@ mod table_view;
 mod checking;
 // The built-in table.
 mod four;
-// The diagram as a table.
-mod diagram_table;
 // The numbering by a table: making one, installing another, the machine that it follows and its calls.
 mod table_numbering;
 

@@ -8,11 +8,10 @@ ghost use Rattle.table.specs.Diagram.{DiagramsPass, SameAsReckoned};
 ghost use Rattle.table.specs.Installed.{Undoes, install_refusal, four_states};
 ghost use Rattle.table.specs.Tables.{entry_at};
 
-use crate::diagram_table::DiagramTable;
 use crate::four::four_states;
 use crate::place::Place;
 use crate::table_view::TableView;
-use diagram::Entry;
+use diagram::{DiagramTable, Entry};
 use grid::{Grid, Refusal, Step};
 use machine::{JoinedMachine, Machine, cell_by, key_by, step_by};
 use numbering::{Numbering, Unbroken};
@@ -33,7 +32,7 @@ pub struct TableNumbering {
 impl TableNumbering {
     ghost use Rattle.table.specs.TableNumbering.{Holds};
 
-    // At first by the built-in table, at order 1.
+    // At first by the built-in table, at order 1. Only memory can fail, but the error is the one of all calls.
     pub fn new(heap: Global) -> Result<TableNumbering, Refusal>
         ensures refused { OrMemory None (refusal result) }
         ensures holds { IfOk result (λ x. Holds x 2 1 4 four_states) }
@@ -112,7 +111,7 @@ impl TableNumbering {
         self.entries.as_slice()
     }
 
-    // Not by a `TableView`, whose reading tests at each digit whether the list has the entry.
+    // Not by a `TableView`, which answers for entries that the list has not: here the digit is known to be one of the table's.
     fn entry(&self, state: u32, digit: u32) -> Entry
         requires state { state < self.now.states }
         requires digit { digit < 2 ^ self.now.grid.axes }
@@ -176,7 +175,8 @@ impl JoinedMachine for TableNumbering {
     ghost rules = { λ x. table_rules _ _ _ (held x) };
 }
 
-// Its calls stand here as they do for a `Curve`: one impl for every machine is refused, since the trait is another crate's.
+// Its calls stand here as they do for a `Curve`. Tried: one impl for every machine is refused, since the trait is another
+// crate's; a struct round every machine would hand on each call of this type.
 impl Numbering for TableNumbering {
     ghost use Rattle.machine.specs.Means.{means};
     ghost use Rattle.table.specs.Held.{held_lawful};

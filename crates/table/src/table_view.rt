@@ -67,6 +67,7 @@ impl<'a> TableView<'a> {
         ensures { result ≡ first_offender rule self.now.axes.count self.now.states self.now.entries.now }
     {
         let mut found = None;
+        // Left by the label: the search is one pass, and the place is told at its one end.
         'states: for (state, row) in self.entries.chunks(self.axes.points() as usize).enumerate() {
             let mut seen = [false; 256];
             for (digit, entry) in row.iter().enumerate() {
@@ -85,7 +86,8 @@ impl<'a> TableView<'a> {
         found
     }
 
-    // Whether the entry at a place breaks a rule. Whether its n-point stands earlier in the row is known already.
+    // Whether the entry at a place breaks a rule. Whether its n-point stands earlier in the row is told by a flag, since the
+    // search has marked it: to look it up here would read the row again.
     fn offends(&self, rule: Rule, place: Place, repeated: bool) -> bool
         requires digit { place.digit < 2 ^ self.now.axes.count }
         requires repeated { repeated ≡ point_repeated self.now.axes.count self.now.entries.now place.state place.digit }

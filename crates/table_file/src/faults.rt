@@ -18,6 +18,7 @@ pub enum FileFault {
 }
 
 // A fault in the table that a file holds: the rule that is broken first, 4 to 8, and where.
+// Beside the same five cases of `Refusal`, so that what loading meets is told by its layer.
 #[derive(Clone, Copy, PartialEq, Eq, Debug)]
 pub enum TableFault {
     PointRepeated { state: u32, digit: u32 },

@@ -39,10 +39,7 @@ fn lengths(rt: HostRuntime) -> Result<(), Fail> {
 // The four states over and over: as many as there may be, and one more.
 #[test]
 fn most_states(rt: HostRuntime) -> Result<(), Fail> {
-    let mut table = Vec::new(rt.alloc());
-    for _ in 0..1024 {
-        table.extend_from_slice(&FOUR_STATES)?;
-    }
+    let mut table = FOUR_STATES.repeat(rt.alloc(), 1024)?;
     assert_eq!(rt; met(2, 4096, table.as_slice()), Ok(()));
     if let Some(last) = table.as_mut_slice().last_mut() {
         last.next = 4096;

@@ -12,7 +12,7 @@ fn spread(round: u64, size: u64) -> u64 {
     round.wrapping_mul(0x9e37_79b9_7f4a_7c15) % size.max(1)
 }
 
-// The cell of a key, which has that key again; zeros behind it, and no heap.
+// The cell of a key, which has that key again; zeros behind it. An array is no longer here than a Vec would be.
 fn cell<N: Numbering>(rt: &impl Abort, numbering: &N, key: u64) -> Result<[u32; 8], Fail> {
     let mut places = [0u32; 8];
     let cell = &mut places[0..numbering.axes() as usize];

@@ -5,5 +5,5 @@ use Rattle.diagram.proofs.numbered.Numbers.count.Goals as goal
 
 pub returns-clause-few : goal.returns-clause-few
 returns-clause-few c =
-    let n = c.args.self.now.axes in
+    let n = c.args.self.now.sequence.axes in
     omega (arith, few n.count n.least n.most _ (states_distinct n.count n.least n.most), most_few n.count n.least n.most)

@@ -9,29 +9,29 @@ use Rattle.diagram.proofs.numbered.Numbers.new.Goals as goal
 use Rattle.diagram.proofs.numbered.Numbers.new.Goals.{then-not-is_number, else-not-is_number}
 
 pub loop-taken-init : goal.loop-taken-init
-loop-taken-init c = taking_first c.args.sequence.now.axes _ _ _ c.requires refl refl c.first.ensures.pair
+loop-taken-init c = taking_first c.args.axes _ _ _ c.requires refl refl c.first.ensures.pair
 
 pub invariant_of-state : goal.invariant_of-state
 invariant_of-state c =
-    let a = c.args.sequence.now.axes in
+    let a = c.args.axes in
     let l = (even_now a c.loop-taken.invariant c.loop-taken-test.true).is_state in
     record { start = s_lt a.count a.least a.most _ l; shift = h_lt a.count a.least a.most _ l }
 
 pub bounds-states-count : goal.bounds-states-count
 bounds-states-count c =
-    let a = c.args.sequence.now.axes in
+    let a = c.args.axes in
     let p : c.loop-point.point < 2 ^ a.count = omega arith in
     turn_room a c.loop-point.invariant (even_now a c.loop-taken.invariant c.loop-taken-test.true) p c.digit.ensures.small c.digit.ensures.is
     c.next-next.result c.next-next.ensures.axes c.next-next.ensures.pair c.slot-slot.ensures.is c.is_number.ensures c.if-not-is_number.true
 
 pub overflow_cast-notes-then-not-is_number : goal.overflow_cast-notes-then-not-is_number
 overflow_cast-notes-then-not-is_number c =
-    let h = going_few c.args.sequence.now.axes c.loop-point.invariant.going in
+    let h = going_few c.args.axes c.loop-point.invariant.going in
     omega arith
 
 pub loop-point-preserved : goal.loop-point-preserved
 loop-point-preserved c =
-    let a = c.args.sequence.now.axes in
+    let a = c.args.axes in
     let p : c.loop-point.point < 2 ^ a.count = omega arith in
     let e = even_now a c.loop-taken.invariant c.loop-taken-test.true in
     elim c.if-not-is_number.branch [
@@ -47,22 +47,25 @@ loop-point-preserved c =
 
 pub loop-taken-smaller : goal.loop-taken-smaller
 loop-taken-smaller c =
-    let h = taken_lt c.args.sequence.now.axes c.loop-taken.invariant c.loop-taken-test.true in
+    let h = taken_lt c.args.axes c.loop-taken.invariant c.loop-taken-test.true in
     omega arith
 
 pub loop-taken-preserved : goal.loop-taken-preserved
 loop-taken-preserved c =
-    taking_on c.args.sequence.now.axes c.loop-taken.invariant c.loop-taken-test.true c.loop-point.invariant.going
+    taking_on c.args.axes c.loop-taken.invariant c.loop-taken-test.true c.loop-point.invariant.going
     (turn_done c.loop-point.invariant (omega arith))
 
-pub invariant_of-result : goal.invariant_of-result
-invariant_of-result c =
-    let a = c.args.sequence.now.axes in
-    record { counted = counted a c.loop-taken.invariant c.loop-taken-test.false; noted = all_noted a c.loop-taken.invariant c.loop-taken-test.false }
+pub invariant_of-result-clause-counted : goal.invariant_of-result-clause-counted
+invariant_of-result-clause-counted c =
+    rw c.new-sequence.ensures (counted c.args.axes c.loop-taken.invariant c.loop-taken-test.false)
+
+pub invariant_of-result-clause-noted : goal.invariant_of-result-clause-noted
+invariant_of-result-clause-noted c =
+    rw c.new-sequence.ensures (all_noted c.args.axes c.loop-taken.invariant c.loop-taken-test.false)
 
 pub returns-clause-listed : goal.returns-clause-listed
 returns-clause-listed c =
-    let a = c.args.sequence.now.axes in
+    let a = c.args.axes in
     let n = a.count in
     filled a c.loop-taken.invariant c.loop-taken-test.false
     ∙ rw (counted a c.loop-taken.invariant c.loop-taken-test.false)
