@@ -38,7 +38,7 @@ impl Numbers {
             for point in 0..axes.points() {
                 let next = sequence.next(state, state.digit(point));
                 let slot = next.slot();
-                if !is_number(&states[..count], notes[slot] as usize, next.pair) {
+                if !is_number(&states[..count], usize::from(notes[slot]), next.pair) {
                     states[count] = next.pair;
                     notes[slot] = count as u16;
                     count += 1;

@@ -22,10 +22,10 @@ bounds-states-count c =
     let a = c.args.axes in
     let p : c.loop-point.point < 2 ^ a.count = omega arith in
     turn_room a c.loop-point.invariant (even_now a c.loop-taken.invariant c.loop-taken-test.true) p c.digit.ensures.small c.digit.ensures.is
-    c.next-next.result c.next-next.ensures.axes c.next-next.ensures.pair c.slot-slot.ensures.is c.is_number.ensures c.if-not-is_number.true
+    c.next-next.result c.next-next.ensures.axes c.next-next.ensures.pair c.slot-slot.ensures.is (rw c.from.ensures at c.is_number.ensures) c.if-not-is_number.true
 
-pub overflow_cast-notes-then-not-is_number : goal.overflow_cast-notes-then-not-is_number
-overflow_cast-notes-then-not-is_number c =
+pub overflow_cast-notes : goal.overflow_cast-notes
+overflow_cast-notes c =
     let h = going_few c.args.axes c.loop-point.invariant.going in
     omega arith
 
@@ -38,11 +38,11 @@ loop-point-preserved c =
       | then-not-is_number w ↦
           rw (w.states-is, w.notes-is, w.count-is)
           (turn_new a c.loop-point.invariant e p c.digit.ensures.small c.digit.ensures.is
-          c.next-next.result c.next-next.ensures.axes c.next-next.ensures.pair c.slot-slot.ensures.is c.is_number.ensures w.if-not-is_number.true)
+          c.next-next.result c.next-next.ensures.axes c.next-next.ensures.pair c.slot-slot.ensures.is (rw c.from.ensures at c.is_number.ensures) w.if-not-is_number.true)
       | else-not-is_number w ↦
           rw (w.states-is, w.notes-is, w.count-is)
           (turn_known a c.loop-point.invariant e p c.digit.ensures.small c.digit.ensures.is
-          c.next-next.result c.next-next.ensures.axes c.next-next.ensures.pair c.slot-slot.ensures.is c.is_number.ensures w.if-not-is_number.false)
+          c.next-next.result c.next-next.ensures.axes c.next-next.ensures.pair c.slot-slot.ensures.is (rw c.from.ensures at c.is_number.ensures) w.if-not-is_number.false)
     ]
 
 pub loop-taken-smaller : goal.loop-taken-smaller
