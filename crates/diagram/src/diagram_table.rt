@@ -18,7 +18,7 @@ pub struct DiagramTable {
 }
 
 impl DiagramTable {
-    // The diagram of that many axes; only memory can fail.
+    // The diagram of that many axes. Only memory can fail, but the error is the one of all calls.
     pub fn new(heap: Global, axes: AxisCount) -> Result<DiagramTable, Refusal>
         ensures refused { OrMemory None (refusal result) }
         ensures states { IfOk result (λ t. t.states ≡ length (diagram_states axes.count)) }

@@ -91,7 +91,8 @@ impl Sequence {
         first_axis(self.axes, self.start(row) ^ self.end(row))
     }
 
-    // The state after a digit, by what the row of that digit has.
+    // The state after a digit, by what the row of that digit has. That the state is one for these axes is asked here and where
+    // this is called: a state that kept its sequence would copy 512 places.
     pub(crate) fn next(&self, state: State, digit: u32) -> State
         requires axes { self.now.axes ≡ state.axes }
         requires small { digit < 2 ^ state.axes.count }

@@ -106,8 +106,8 @@ impl Grid {
     }
 }
 
-// The lowest axis on which a cell is outside. Of a list that is lent its length has to be told: a type for at most eight
-// places would be made for this call alone.
+// The lowest axis on which a cell is outside. That a list has at most eight places is asked: a type for it would be made of
+// what is lent at every call that asks it.
 fn lowest_outside(cell: &[u32], side: u32) -> Option<u32>
     requires { length cell.now ≤ 8 }
     ensures { result ≡ lowest (outside side) cell.now }

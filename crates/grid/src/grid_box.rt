@@ -8,7 +8,7 @@ use crate::refusal::Refusal;
 
 // The cells between two corners, ends included. The places past the axes hold 0.
 // Eight places for each corner, whatever the axes: a box is a plain value and needs no heap. Two corners and not eight
-// pairs, since corners are what calls take, answer and promise.
+// pairs, since corners are what calls take, answer and promise. Its axes are a plain number, as a grid's: clauses name it.
 // It has no `==`: of a derived one on arrays the check can tell nothing.
 #[derive(Clone, Copy, Debug)]
 pub struct GridBox {
@@ -84,8 +84,10 @@ impl GridBox {
     }
 }
 
-// The lowest axis on which the low corner is above the high one. That a corner has at most eight places is told to this and
-// to the next: a type for it would be made for the two alone.
+// That a corner has at most eight places is asked by the next two: a type for such a list would be made of what is lent at
+// every call that asks it.
+
+// The lowest axis on which the low corner is above the high one.
 fn crossing(low: &[u32], high: &[u32]) -> Option<u32>
     requires { length low.now ≤ 8 }
     ensures { result ≡ lowest crossed (zip low.now high.now) }

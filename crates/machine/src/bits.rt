@@ -28,7 +28,8 @@ fn bit(x: u32, place: u32) -> u32
     (x >> place) & 1
 }
 
-// A cell is lent to the next two as a list: a type for at most eight places would be made and taken apart at each digit.
+// That a cell has at most eight places is asked by the next two: a type for such a list would be made and taken apart at each
+// digit.
 
 // One more bit for each coordinate, that of the n-point.
 pub(crate) fn append(cell: &mut [u32], point: u32)

@@ -31,8 +31,8 @@ fn places_of<M: Machine>(m: &M, key: u64) -> [u32; 8]
     places
 }
 
-// The step between two cells that share a face. A cell is lent as a list: a type for at most eight places would be made here
-// and taken apart at once.
+// The step between two cells that share a face. That they have at most eight places is asked: a type for such a list would be
+// made of what is lent at every call that asks it.
 fn step_between(here: &[u32], there: &[u32]) -> Step
     requires few { length here.now ≤ 8 }
     requires same { length there.now ≡ length here.now }

@@ -37,7 +37,7 @@ fn time<N: Numbering>(rt: &(impl Print + Clock), numbering: &N, rounds: u64) -> 
     let start = Instant::now(rt)?;
     let keys = keys(numbering, rounds)?;
     let key_time = per_round(start.elapsed(rt)?, rounds).saturating_sub(cell_time);
-    // What was reckoned is told where it can be wrong, so that nothing is left out.
+    // What was reckoned is looked at, though it is never so, that no call is left out by the compiler.
     if cells == u64::from(u32::MAX) && keys != 0 {
         print!(rt; "?")?;
     }
@@ -68,7 +68,8 @@ fn keys<N: Numbering>(numbering: &N, rounds: u64) -> Result<u64, Refusal> {
     })
 }
 
-// What a closure makes of a key for each round, all bits together. It is lent a list for a cell, one array for all rounds.
+// What a closure makes of a key for each round, all bits together. It is lent a list for a cell, at the
+// front of an array, which is no longer here than a Vec would be.
 fn over_keys<N, F>(numbering: &N, rounds: u64, mut made: F) -> Result<u64, Refusal>
 where
     N: Numbering,

@@ -1,7 +1,7 @@
 use crate::survey::Sounding;
 use grid::{GridBox, Refusal};
 use numbering::Numbering;
-use std::alloc::Global;
+use std::alloc::{AllocError, Global};
 
 // A row of the ordered table: a key, and the record that is filed under it, with its number.
 #[derive(Clone, Copy)]
@@ -41,11 +41,10 @@ pub(crate) fn scan<'a>(
     heap: Global,
     table: &[Row<'a>],
     wanted: GridBox,
-) -> Result<Vec<Row<'a>>, Refusal> {
-    let found = table
+) -> Result<Vec<Row<'a>>, AllocError> {
+    table
         .iter()
         .copied()
         .filter(|row| wanted.contains(&row.sounding.cell))
-        .collect(heap)?;
-    Ok(found)
+        .collect(heap)
 }

@@ -16,9 +16,8 @@ use tool::print_diagram;
 
 fn main(rt: HostRuntime) -> anyhow::Result<()> {
     let mut words = env::args(&rt)?;
-    // The program's own name.
-    let _ = words.next();
-    let Some(command) = words.next() else {
+    // After the program's own name.
+    let Some(command) = words.nth(1) else {
         return file_and_search(&rt);
     };
     match (command.as_str(), words.next(), words.next()) {

@@ -105,7 +105,7 @@ fn reckoned(axes: u32, order: u32) -> Result<Reckoned, Fail> {
 }
 
 // The cell of a key, zeros behind it. At the front of an array, which is no longer than a Vec would be.
-fn cell<N: Numbering>(numbering: &N, key: u64) -> Result<[u32; 8], Fail> {
+pub(crate) fn cell<N: Numbering>(numbering: &N, key: u64) -> Result<[u32; 8], Fail> {
     let mut places = [0u32; 8];
     numbering.cell_of(key, &mut places[0..numbering.axes() as usize])?;
     Ok(places)

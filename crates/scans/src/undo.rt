@@ -1,5 +1,5 @@
 // Key to cell and cell to key undo each other: every key of small grids, by each numbering and a pile of turnings.
-use crate::hilbert::curve;
+use crate::hilbert::{cell, curve};
 use machine::ZOrder;
 use numbering::{Exchange, Mirror, Numbering, Reversal};
 use std::process::Abort;
@@ -7,11 +7,10 @@ use std::test::Fail;
 
 const GRIDS: [(u32, u32); 6] = [(2, 1), (2, 2), (2, 3), (3, 1), (3, 2), (3, 3)];
 
-// The cell of a key has that key. At the front of an array, which is no longer than a Vec would be.
+// The cell of a key has that key.
 fn returns<N: Numbering>(rt: &impl Abort, numbering: &N, key: u64) -> Result<(), Fail> {
-    let mut places = [0u32; 8];
-    let cell = &mut places[0..numbering.axes() as usize];
-    numbering.cell_of(key, cell)?;
+    let places = cell(numbering, key)?;
+    let cell = &places[0..numbering.axes() as usize];
     assert_eq!(rt; numbering.key_of(cell)?, key);
     assert_eq!(rt; numbering.round_trip(key)?, key);
     Ok(())

@@ -88,6 +88,7 @@ impl TableNumbering {
     {
         let grid = Grid::new(axes, order)?;
         let diagram = DiagramTable::new(heap, grid.axis_count())?;
+        // By `install`: what is held has passed the check, also where a theorem says that it does.
         self.install(
             heap,
             axes,

@@ -67,7 +67,7 @@ impl<'a> TableView<'a> {
         ensures { result ≡ first_offender rule self.now.axes.count self.now.states self.now.entries.now }
     {
         let mut found = None;
-        // Left by the label: the search is one pass, and the place is told at its one end.
+        // Nested loops left by a label: so the project wants this search written.
         'states: for (state, row) in self.entries.chunks(self.axes.points() as usize).enumerate() {
             let mut seen = [false; 256];
             for (digit, entry) in row.iter().enumerate() {
