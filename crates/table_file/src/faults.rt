@@ -1,4 +1,5 @@
 // A fault in the bytes of a file. An offset is that of the field, from 0.
+// Beside the same cases of `Refusal`, so that what loading meets is told by its layer.
 #[derive(Clone, Copy, PartialEq, Eq, Debug)]
 pub enum FileFault {
     // 1: the number of axes is not 2 to 8.
@@ -18,7 +19,7 @@ pub enum FileFault {
 }
 
 // A fault in the table that a file holds: the rule that is broken first, 4 to 8, and where.
-// Beside the same five cases of `Refusal`, so that what loading meets is told by its layer.
+// Beside five cases of `Refusal`, as a file's faults are.
 #[derive(Clone, Copy, PartialEq, Eq, Debug)]
 pub enum TableFault {
     PointRepeated { state: u32, digit: u32 },
