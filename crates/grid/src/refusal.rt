@@ -1,7 +1,7 @@
 // What a call refuses. Each case has one number, and its fields are what it tells.
 // Axes are counted from 1, states, digits, places and offsets from 0.
 // It has no `==`: of a derived one on so many cases the check can tell nothing.
-#[derive(Clone, Copy, Debug)]
+#[derive(Clone, Copy)]
 pub enum Refusal {
     // 1: the number of axes is not 2 to 8.
     Axes { axes: u32 },

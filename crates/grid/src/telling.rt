@@ -149,4 +149,13 @@ impl fmt::Display for Refusal {
     }
 }
 
+// The same sentence. By hand: a `main` that answers a refusal prints it by this, and a derived one would not tell the number.
+impl fmt::Debug for Refusal {
+    ghost debug_output = { λ r. Some (sentence r) };
+
+    fn fmt<W: fmt::Write>(&self, f: &mut fmt::Formatter<W>) -> fmt::Result {
+        write!(f, "{self}")
+    }
+}
+
 impl Error for Refusal {}
