@@ -1,7 +1,7 @@
 use crate::survey::Sounding;
 use grid::{GridBox, Refusal};
 use numbering::Numbering;
-use std::alloc::{AllocError, Global};
+use std::alloc::Global;
 
 // A row of the ordered table: a key, and the record that is filed under it, with its number.
 #[derive(Clone, Copy)]
@@ -36,15 +36,17 @@ pub(crate) fn wanted() -> Result<GridBox, Refusal> {
     Ok(place)
 }
 
-// The rows whose cell lies in a box, by a look at every row.
+// The rows whose cell lies in a box, by a look at every row. Only memory can fail, but the error is the one of all calls.
 pub(crate) fn scan<'a>(
     heap: Global,
     table: &[Row<'a>],
     wanted: GridBox,
-) -> Result<Vec<Row<'a>>, AllocError> {
-    table
-        .iter()
-        .copied()
-        .filter(|row| wanted.contains(&row.sounding.cell))
-        .collect(heap)
+) -> Result<Vec<Row<'a>>, Refusal> {
+    Ok(
+        table
+            .iter()
+            .copied()
+            .filter(|row| wanted.contains(&row.sounding.cell))
+            .collect(heap)?,
+    )
 }

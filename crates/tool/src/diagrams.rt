@@ -1,11 +1,13 @@
 use crate::table_text::Row;
 use diagram::DiagramTable;
 use grid::AxisCount;
+use std::alloc::AllocError;
 
 // Prints the diagram of that many axes: the number of axes and of states, then a line for each state.
 pub fn print_diagram(rt: &(impl Print + AllocGlobal), axes: u32) -> anyhow::Result<()> {
     let count = AxisCount::try_from(axes)?;
-    let diagram = DiagramTable::new(rt.alloc(), count)?;
+    // Only memory can fail, and a command says so as it does where it asks for memory itself.
+    let diagram = DiagramTable::new(rt.alloc(), count).map_err(|_| AllocError)?;
     println!(rt; "{axes} {}", diagram.states)?;
     let rows = diagram.entries.as_slice().chunks(count.points() as usize);
     for (state, entries) in rows.enumerate() {
