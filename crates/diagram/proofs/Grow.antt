@@ -1,12 +1,9 @@
 -- The X2 sequence grows by one axis: what the builder's steps do to a list.
-use Rattle.std.proofs.Common.{◌≡◌, ℕ, zero, suc, ◌+◌, ◌-◌, ◌*◌, ◌/◌, ◌^◌, ◌<◌, ◌≤◌, Bool, true, false, cond, T, eqb, ltb, List, [], ◌∷◌, ◌++◌, map, reverse, length, get_or, take, drop, set, sym, refl, ap, ◌∙◌, ap₂, arith, eqb→eq, ltb→lt, length-append, length-take-le, take_all, drop-drop, take_at, drop_at, pow_pos}
-use native.Mathlib.Nat.{sub-zero, two-pow-succ, pow-le-pow_right}
-use Rattle.std.proofs.lemmas.List.{append-nil, append_assoc, drop_all, drop_more, get_or_at, map_more, set_at}
+use Rattle.std.proofs.Common.{◌≡◌, ℕ, zero, suc, ◌+◌, ◌-◌, ◌/◌, ◌^◌, ◌<◌, ◌≤◌, Bool, true, false, cond, T, eqb, ltb, List, [], ◌∷◌, ◌++◌, map, reverse, length, get_or, take, drop, set, sym, refl, ap, ◌∙◌, ap₂, arith, eqb→eq, ltb→lt, length-append, length-set, length-take-le, take_all, drop-drop, take_at, drop_at, pow_pos}
+use native.Mathlib.Nat.{two-pow-succ, pow-le-pow_right}
+use Rattle.std.proofs.lemmas.List.{append-nil, append_assoc, drop_all, drop_more, map_more, set_at}
 use lib.Bits.{bit_xor}
 use lib.ListN.{length-reverse, length-map, get_or-append}
-use borrow.Rule.Slice.PartMut.{post_of}
-use lib.Seq.{paste}
-use Rattle.std.specs.List.{copy_within}
 use Rattle.grid.proofs.Limited.{two_to_eight}
 use Rattle.diagram.specs.Computed.{both_left, both_right}
 use Rattle.diagram.specs.Rows.{x2, repeat_last, lead_last, doubled, invert_upper}
@@ -95,13 +92,12 @@ module _ (e0 l : List ℕ) (lead len : ℕ) (hl : length l ≡ len) (two : 2 ≤
   long = length_half lead l ∙ hl
 
   -- the half once more behind itself, back to front and with the leading bit inverted
-  pub built : (copied upper : List ℕ) → copied ≡ copy_within stored 0 len len
-      → upper ≡ map (bit_xor lead) (reverse (take (2 * len - len) (drop len copied)))
-      → take len copied ++ (upper ++ post_of len (2 * len - len) copied) ≡ grow lead l ++ drop (len + len) e0
-  built copied upper ec eu =
-      ap₂ (λ (a b : List ℕ). a ++ b) front
-      (ap₂ (λ (a b : List ℕ). a ++ b) (eu ∙ ap (λ (x : List ℕ). map (bit_xor lead) (reverse x)) (ap₂ take twice back ∙ take_at h rest len long))
-      (ap₂ drop twice back ∙ drop_at h rest len long))
+  pub built : (front upper back : List ℕ) → front ≡ take len stored → back ≡ drop len stored → upper ≡ map (bit_xor lead) (reverse front)
+      → front ++ (upper ++ drop len back) ≡ grow lead l ++ drop (len + len) e0
+  built front upper back ef eb eu =
+      ap₂ (λ (a b : List ℕ). a ++ b) first
+      (ap₂ (λ (a b : List ℕ). a ++ b) (eu ∙ ap (λ (x : List ℕ). map (bit_xor lead) (reverse x)) first)
+      (ap (drop len) (eb ∙ ap (drop len) stored_is ∙ drop_at h (drop len e0) len long) ∙ drop-drop len len e0))
       ∙ sym (append_assoc h (map (bit_xor lead) (reverse h)) rest) ∙ ap (λ (x : List ℕ). x ++ rest) (sym (grow_is lead l))
     where
       h : List ℕ
@@ -110,47 +106,31 @@ module _ (e0 l : List ℕ) (lead len : ℕ) (hl : length l ≡ len) (two : 2 ≤
       rest : List ℕ
       rest = drop (len + len) e0
 
-      twice : 2 * len - len ≡ len
-      twice = omega arith
+      first : front ≡ h
+      first = ef ∙ ap (take len) stored_is ∙ take_at h (drop len e0) len long
 
-      copied_is : copied ≡ h ++ (h ++ rest)
-      copied_is =
-          ec ∙ ap (λ (x : List ℕ). copy_within x 0 len len) stored_is
-          ∙ ap (λ (k : ℕ). paste (h ++ drop len e0) len (h ++ drop len e0) k) (sub-zero len)
-          ∙ ap (λ (x : List ℕ). x ++ take len (h ++ drop len e0) ++ drop (len + len) (h ++ drop len e0)) (take_at h (drop len e0) len long)
-          ∙ ap₂ (λ (a b : List ℕ). h ++ a ++ b) (take_at h (drop len e0) len long)
-          (sym (drop-drop len len (h ++ drop len e0)) ∙ ap (drop len) (drop_at h (drop len e0) len long) ∙ drop-drop len len e0)
-          ∙ append_assoc h h rest
-
-      front : take len copied ≡ h
-      front = ap (take len) copied_is ∙ take_at h (h ++ rest) len long
-
-      back : drop len copied ≡ h ++ rest
-      back = ap (drop len) copied_is ∙ drop_at h (h ++ rest) len long
-
--- a turn of a loop that puts f of each member in its place
-pub map_turn : (f : ℕ → ℕ) (l us : List ℕ) (i : ℕ) → i < length l → us ≡ map f (take i l) ++ drop i l
-    → set us i (f (get_or us i 0)) ≡ map f (take (i + 1) l) ++ drop (i + 1) l
-map_turn f l us i h e =
-    ap (λ (u : List ℕ). set u i (f (get_or u i 0))) (e ∙ ap (λ (r : List ℕ). front ++ r) (drop_more l i 0 h))
-    ∙ ap (λ (x : ℕ). set (front ++ (y ∷ rest)) i (f x)) (get_or_at front y rest 0 i long)
-    ∙ set_at front y rest (f y) i long
-    ∙ sym (ap (λ (r : List ℕ). r ++ rest) (map_more f l i 0 h) ∙ append_assoc front (f y ∷ []) rest)
+-- a turn of a loop that puts f of each member of r in the place of l's
+pub map_turn : (f : ℕ → ℕ) (r l us : List ℕ) (i : ℕ) → i < length r → i < length l → us ≡ map f (take i r) ++ drop i l
+    → set us i (f (get_or r i 0)) ≡ map f (take (i + 1) r) ++ drop (i + 1) l
+map_turn f r l us i hr hl e =
+    ap (λ (u : List ℕ). set u i (f y)) (e ∙ ap (λ (x : List ℕ). front ++ x) (drop_more l i 0 hl))
+    ∙ set_at front (get_or l i 0) rest (f y) i long
+    ∙ sym (ap (λ (x : List ℕ). x ++ rest) (map_more f r i 0 hr) ∙ append_assoc front (f y ∷ []) rest)
   where
     front : List ℕ
-    front = map f (take i l)
+    front = map f (take i r)
 
     y : ℕ
-    y = get_or l i 0
+    y = get_or r i 0
 
     rest : List ℕ
     rest = drop (i + 1) l
 
     long : length front ≡ i
-    long = length-map (take i l) f ∙ length-take-le i l (omega arith)
+    long = length-map (take i r) f ∙ length-take-le i r (omega arith)
 
-pub map_done : (f : ℕ → ℕ) (l us : List ℕ) (i : ℕ) → length l ≤ i → us ≡ map f (take i l) ++ drop i l → us ≡ map f l
-map_done f l us i h e = e ∙ ap₂ (λ (a b : List ℕ). map f a ++ b) (take_all i l h) (drop_all i l h) ∙ append-nil (map f l)
+pub map_done : (f : ℕ → ℕ) (r l us : List ℕ) (i : ℕ) → length r ≤ i → length l ≤ i → us ≡ map f (take i r) ++ drop i l → us ≡ map f r
+map_done f r l us i hr hl e = e ∙ ap₂ (λ (a b : List ℕ). map f a ++ b) (take_all i r hr) (drop_all i l hl) ∙ append-nil (map f r)
 
 -- the builder's call, from what its inner call promised
 module _ (n len : ℕ) (e0 out0 : List ℕ) (lo : 2 ≤ n) (hi : n ≤ 8) (hlen : len ≡ 2 ^ suc (n - 1))
@@ -170,6 +150,9 @@ module _ (n len : ℕ) (e0 out0 : List ℕ) (lo : 2 ≤ n) (hi : n ≤ 8) (hlen 
   pub room_twice : len + len ≤ length e0
   room_twice = omega (arith, twofold)
 
+  pub upper_long : (back : List ℕ) (x : ℕ) → length out0 ≡ length e0 → length back + len ≡ length (set out0 (len - 1) x) → length (take len back) ≡ len
+  upper_long back x same parts = length-take-le len back (omega (arith, room_twice, length-set out0 (len - 1) x))
+
   pub sum_fits : get_or out0 (len - 2) 0 + len / 2 < 256
   sum_fits =
       let e : get_or out0 (len - 2) 0 ≡ get_or (x2 (n - 1)) (len - 2) 0
@@ -179,10 +162,12 @@ module _ (n len : ℕ) (e0 out0 : List ℕ) (lo : 2 ≤ n) (hi : n ≤ 8) (hlen 
       let b : 2 ^ (n - 1) ≤ 2 ^ 7 = pow-le-pow_right {n = 2} (omega arith) {i = n - 1} {j = 7} (omega arith) in
       omega (arith, lead_is)
 
-  pub whole : (copied upper : List ℕ) → copied ≡ copy_within (set out0 (len - 1) (get_or out0 (len - 2) 0 + len / 2)) 0 len len
-      → upper ≡ map (bit_xor (len / 2)) (reverse (take (2 * len - len) (drop len copied)))
-      → take len copied ++ (upper ++ post_of len (2 * len - len) copied) ≡ x2 n ++ drop (2 ^ suc n) e0
-  whole copied upper ec eu =
-      built e0 (x2 (n - 1)) (len / 2) len long_inner len_two room_twice copied upper
-      (ec ∙ ap (λ (x : List ℕ). copy_within (set x (len - 1) (get_or x (len - 2) 0 + len / 2)) 0 len len) (hout ∙ ap (λ (k : ℕ). x2 (n - 1) ++ drop k e0) (sym hlen))) eu
+  pub whole : (front upper back : List ℕ)
+      → front ≡ take len (set out0 (len - 1) (get_or out0 (len - 2) 0 + len / 2))
+      → back ≡ drop len (set out0 (len - 1) (get_or out0 (len - 2) 0 + len / 2))
+      → upper ≡ map (bit_xor (len / 2)) (reverse front)
+      → front ++ (upper ++ drop len back) ≡ x2 n ++ drop (2 ^ suc n) e0
+  whole front upper back ef eb eu =
+      let at = ap (λ (x : List ℕ). set x (len - 1) (get_or x (len - 2) 0 + len / 2)) (hout ∙ ap (λ (k : ℕ). x2 (n - 1) ++ drop k e0) (sym hlen)) in
+      built e0 (x2 (n - 1)) (len / 2) len long_inner len_two room_twice front upper back (ef ∙ ap (take len) at) (eb ∙ ap (drop len) at) eu
       ∙ ap₂ (λ (x : List ℕ) (k : ℕ). x ++ drop k e0) (ap (λ (b : ℕ). grow b (x2 (n - 1))) lead_is ∙ sym (x2_grow n lo)) (sym twofold)

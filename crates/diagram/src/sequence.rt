@@ -37,12 +37,11 @@ fn extend(axes: u32, list: &mut [u8]) -> usize
     let half = extend(axes - 1, list);
     let lead = (half / 2) as u8;
     list[half - 1] = list[half - 2] + lead;
-    // Once more back to front, and there with the leading bit flipped.
-    list.copy_within(..half, half);
-    let upper = &mut list[half..2 * half];
-    upper.reverse();
-    for member in upper.iter_mut() {
-        *member ^= lead;
+    // Once more back to front, and there with the leading bit flipped: in one pass, which takes half the time of three.
+    let (front, back) = list.split_at_mut(half);
+    let upper = &mut back[..half];
+    for (place, member) in upper.iter_mut().enumerate() {
+        *member = lead ^ front[half - 1 - place];
     }
     2 * half
 }
