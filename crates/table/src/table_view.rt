@@ -136,14 +136,16 @@ impl<'a> TableView<'a> {
         requires { IsTable self.now.axes.count self.now.states self.now.entries.now }
         ensures { IfOk result (λ v. Undone self.now.axes.count self.now.states self.now.entries.now v.items) }
     {
+        // Read once, and not again after each byte that is written.
+        let axes = self.axes;
         let mut digits = vec![in heap; 0; self.entries.len()]?;
-        for (state, row) in self.entries.chunks(self.axes.points() as usize).enumerate() {
+        for (state, row) in self.entries.chunks(axes.points() as usize).enumerate() {
             for (digit, entry) in row.iter().enumerate() {
                 let place = Place {
                     state: state as u32,
                     digit: u32::from(entry.point),
                 };
-                digits[place.index(self.axes)] = digit as u8;
+                digits[place.index(axes)] = digit as u8;
             }
         }
         Ok(digits)
