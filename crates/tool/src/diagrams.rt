@@ -6,7 +6,7 @@ use std::alloc::AllocError;
 // Prints the diagram of that many axes: the number of axes and of states, then a line for each state.
 pub fn print_diagram(rt: &(impl Print + AllocGlobal), axes: u32) -> anyhow::Result<()> {
     let count = AxisCount::try_from(axes)?;
-    // Only memory can fail, and a command says so as it does where it asks for memory itself.
+    // Only memory can fail, and the allocator's words are what this command tells of it.
     let diagram = DiagramTable::new(rt.alloc(), count).map_err(|_| AllocError)?;
     println!(rt; "{axes} {}", diagram.states)?;
     let rows = diagram.entries.as_slice().chunks(count.points() as usize);
